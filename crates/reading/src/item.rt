@@ -1,0 +1,195 @@
+// Items of one head, with their limits.
+use crate::cursor::Cursor;
+use crate::cursor::Head;
+use crate::fault::Fault;
+use crate::limits;
+use crate::step::Step;
+ghost use mathlib.Core.Path.{_≡_};
+ghost use Rattle.reading.specs.Read.{mapR};
+ghost use Rattle.reading.specs.Item.{readKind, readNumber, readIrVersion, readCase, readBool, readFields, readCount, readTag};
+ghost use Rattle.reading.specs.Link.{answer, taggedOf, stands, bit, valueOf, stepOf};
+
+// An item with a number: the number and the cursor after the item; or what is wrong, and where.
+pub enum Answer {
+    Got(u64, Cursor),
+    Refused(Fault, usize),
+}
+
+// The head of a data enum: the array's start and count, the case number and its place.
+pub struct Tag {
+    pub start: usize,
+    pub count: u64,
+    pub case: u64,
+    pub place: usize,
+}
+
+pub enum Tagged {
+    Case(Tag, Cursor),
+    Refused(Fault, usize),
+}
+
+impl Answer {
+    // The number; 0 where it is refused.
+    pub fn value(self) -> u64
+        ensures { λ r. ⌜ r ≡ valueOf self ⌝ }
+    {
+        match self {
+            Answer::Got(v, _) => v,
+            Answer::Refused(_, _) => 0,
+        }
+    }
+
+    // The answer without its number.
+    pub fn step(self) -> Step
+        ensures { λ r. ⌜ r ≡ stepOf self ⌝ }
+    {
+        match self {
+            Answer::Got(_, next) => Step::To(next),
+            Answer::Refused(fault, place) => Step::Refused(fault, place),
+        }
+    }
+}
+
+impl Cursor {
+    // The argument of an item of the major type that is due.
+    pub fn kind(self, doc: &[u8], due: u8) -> Answer
+        ensures { λ r. ⌜ r ≡ answer (readKind due (now (doc .entry)) (self .at)) ⌝ }
+    {
+        let at = self.at;
+        let h = self.head(doc);
+        match h {
+            Head::Item(major, arg, next) => {
+                if major == due {
+                    Answer::Got(arg, next)
+                } else {
+                    Answer::Refused(Fault::Unexpected, at)
+                }
+            }
+            Head::Refused(fault, place) => Answer::Refused(fault, place),
+        }
+    }
+
+    // A number that is at most the limit.
+    pub fn number(self, doc: &[u8], limit: u64) -> Answer
+        ensures { λ r. ⌜ r ≡ answer (readNumber limit (now (doc .entry)) (self .at)) ⌝ }
+    {
+        let at = self.at;
+        let r = self.kind(doc, 0);
+        let Answer::Got(v, next) = r else {
+            return r;
+        };
+        if limit < v {
+            return Answer::Refused(Fault::OutOfRange, at);
+        }
+        Answer::Got(v, next)
+    }
+
+    // ir_version.
+    pub fn ir_version(self, doc: &[u8]) -> Answer
+        ensures { λ r. ⌜ r ≡ answer (readIrVersion (now (doc .entry)) (self .at)) ⌝ }
+    {
+        let at = self.at;
+        let r = self.kind(doc, 0);
+        let Answer::Got(v, next) = r else {
+            return r;
+        };
+        if limits::VERSION < v {
+            return Answer::Refused(Fault::UnknownVersion, at);
+        }
+        Answer::Got(v, next)
+    }
+
+    // A bare case number.
+    pub fn case_number(self, doc: &[u8], cases: u64) -> Answer
+        ensures { λ r. ⌜ r ≡ answer (readCase cases (now (doc .entry)) (self .at)) ⌝ }
+    {
+        let at = self.at;
+        let r = self.kind(doc, 0);
+        let Answer::Got(v, next) = r else {
+            return r;
+        };
+        if v < cases {
+            return Answer::Got(v, next);
+        }
+        Answer::Refused(Fault::Unexpected, at)
+    }
+
+    // A bool: 0 or 1.
+    pub fn boolean(self, doc: &[u8]) -> Answer
+        ensures { λ r. ⌜ r ≡ answer (mapR bit (readBool (now (doc .entry)) (self .at))) ⌝ }
+    {
+        let at = self.at;
+        let r = self.kind(doc, 7);
+        let Answer::Got(v, next) = r else {
+            return r;
+        };
+        match v {
+            20 => Answer::Got(0, next),
+            21 => Answer::Got(1, next),
+            _ => Answer::Refused(Fault::Unexpected, at),
+        }
+    }
+
+    // The head of a record of as many fields.
+    pub fn fields(self, doc: &[u8], fields: u64) -> Step
+        ensures { λ r. ⌜ r ≡ stands (readFields fields (now (doc .entry)) (self .at)) ⌝ }
+    {
+        let at = self.at;
+        let r = self.kind(doc, 4);
+        match r {
+            Answer::Got(v, next) => {
+                if v == fields {
+                    Step::To(next)
+                } else {
+                    Step::Refused(Fault::Unexpected, at)
+                }
+            }
+            Answer::Refused(fault, place) => Step::Refused(fault, place),
+        }
+    }
+
+    // The head of a list of at most as many entries.
+    pub fn count(self, doc: &[u8], limit: u64) -> Answer
+        ensures { λ r. ⌜ r ≡ answer (readCount limit (now (doc .entry)) (self .at)) ⌝ }
+    {
+        let at = self.at;
+        let r = self.kind(doc, 4);
+        let Answer::Got(v, next) = r else {
+            return r;
+        };
+        if limit < v {
+            return Answer::Refused(Fault::OutOfRange, at);
+        }
+        Answer::Got(v, next)
+    }
+
+    // The head of a data enum.
+    pub fn tag(self, doc: &[u8]) -> Tagged
+        ensures { λ r. ⌜ r ≡ taggedOf (readTag (now (doc .entry)) (self .at)) ⌝ }
+    {
+        let at = self.at;
+        let r = self.kind(doc, 4);
+        match r {
+            Answer::Got(count, next) => {
+                if count == 0 {
+                    return Tagged::Refused(Fault::Unexpected, at);
+                }
+                let place = next.at;
+                let k = next.kind(doc, 0);
+                match k {
+                    Answer::Got(case, after) => Tagged::Case(
+                        Tag {
+                            start: at,
+                            count,
+                            case,
+                            place,
+                        },
+                        after,
+                    ),
+                    Answer::Refused(fault, place) => Tagged::Refused(fault, place),
+                }
+            }
+            Answer::Refused(fault, place) => Tagged::Refused(fault, place),
+        }
+    }
+}

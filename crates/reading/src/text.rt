@@ -1,0 +1,107 @@
+// Names and version strings.
+use crate::cursor::Cursor;
+use crate::fault::Fault;
+use crate::item::Answer;
+use crate::limits;
+ghost use mathlib.Core.Path.{_≡_};
+ghost use Prim.Native.Nat.{_≤_};
+ghost use lib.ListN.{length};
+ghost use Rattle.reading.specs.Read.{mapR};
+ghost use Rattle.reading.specs.Text.{all, nameByte, versionByte, textBytes, readText};
+ghost use Rattle.reading.specs.Link.{answer, leastOf, alphabetOf};
+
+// What a string is: a name has a byte at least, and a narrower alphabet.
+pub enum Text {
+    Name,
+    Version,
+}
+
+// An ASCII letter, digit or underscore.
+fn name_byte(b: u8) -> bool
+    ensures { λ r. ⌜ r ≡ nameByte b ⌝ }
+{
+    match b {
+        48..=57 => true,
+        65..=90 => true,
+        95 => true,
+        97..=122 => true,
+        _ => false,
+    }
+}
+
+// A printing ASCII character, or a space.
+fn version_byte(b: u8) -> bool
+    ensures { λ r. ⌜ r ≡ versionByte b ⌝ }
+{
+    match b {
+        32..=126 => true,
+        _ => false,
+    }
+}
+
+fn alphabet_has(text: Text, b: u8) -> bool
+    ensures { λ r. ⌜ r ≡ alphabetOf text b ⌝ }
+{
+    match text {
+        Text::Name => name_byte(b),
+        Text::Version => version_byte(b),
+    }
+}
+
+fn least(text: Text) -> u64
+    ensures { λ r. ⌜ r ≡ leastOf text ⌝ }
+{
+    match text {
+        Text::Name => 1,
+        Text::Version => 0,
+    }
+}
+
+fn all_in_alphabet(text: Text, bytes: &[u8]) -> bool
+    ensures { λ r. ⌜ r ≡ all (alphabetOf text) (now (bytes .entry)) ⌝ }
+{
+    let mut i = 0;
+    while i < bytes.len() {
+        if alphabet_has(text, bytes[i]) {
+            i += 1;
+        } else {
+            return false;
+        }
+    }
+    true
+}
+
+// The bytes of a string whose head stands at `at` and is read.
+fn text_bytes(doc: &[u8], text: Text, at: usize, len: usize, from: usize) -> Answer
+    requires { ⌜ from ≤ length (now doc) ⌝ }
+    ensures { λ r. ⌜ r ≡ answer (mapR length (textBytes (alphabetOf text) (now (doc .entry)) at len from)) ⌝ }
+{
+    if doc.len() - from < len {
+        return Answer::Refused(Fault::Truncated, at);
+    }
+    let end = from + len;
+    if all_in_alphabet(text, &doc[from..end]) {
+        return Answer::Got(len as u64, Cursor { at: end });
+    }
+    Answer::Refused(Fault::OutsideAlphabet, at)
+}
+
+impl Cursor {
+    // A string: its length, and the cursor after it.
+    pub fn text(self, doc: &[u8], text: Text) -> Answer
+        ensures { λ r. ⌜ r ≡ answer (mapR length (readText (leastOf text) (alphabetOf text) (now (doc .entry)) (self .at))) ⌝ }
+    {
+        let at = self.at;
+        let r = self.kind(doc, 3);
+        let Answer::Got(len, next) = r else {
+            return r;
+        };
+        if len < least(text) {
+            return Answer::Refused(Fault::OutOfRange, at);
+        }
+        if limits::TEXT < len {
+            return Answer::Refused(Fault::OutOfRange, at);
+        }
+        text_bytes(doc, text, at, len as usize, next.at)
+    }
+}
