@@ -1,3 +1,8 @@
 -- Laws that belong to no one function, from the lowest to the highest.
 pub mod Rules
 pub mod Gives
+pub mod Answers
+pub mod Strings
+pub mod Threads
+pub mod Arms
+pub mod Cycle

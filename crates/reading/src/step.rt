@@ -185,7 +185,7 @@ impl Step {
 impl Cursor {
     // After a case number, if the array has as many items as are due.
     pub fn sized(self, tag: Tag, due: u64) -> Step
-        ensures { λ r. ⌜ r ≡ stands (sized tag due (ok tt (self .at))) ⌝ }
+        ensures { λ r. ⌜ r ≡ stands (sized tag due (ok (tt {0}) (self .at))) ⌝ }
     {
         if tag.count == due {
             return Step::To(self);
