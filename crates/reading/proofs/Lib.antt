@@ -4,5 +4,7 @@ pub mod Gives
 pub mod Answers
 pub mod Strings
 pub mod Threads
+pub mod Levels
 pub mod Arms
+pub mod Whole
 pub mod Cycle

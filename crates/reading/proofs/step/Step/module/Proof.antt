@@ -8,7 +8,7 @@ use Rattle.reading.proofs.step.Step.module.Tie as tie
 
 returns : tie.Need-returns
 unfolding readModule
-returns c = (search (record-read, then-read), refl)
+returns c = (search (record-read, then-read) depth 12, refl)
 
 pub module-spec : {M : Type 1} → statement M
 module-spec = tie.close (tie.spec (λ c κs. search needs) (λ c κs. search needs) (λ c κs. search needs) (λ c κs. search needs) (λ c κs. search needs) (λ c κs. search needs) (λ c κs. search needs) (λ c κs. search needs) (λ c κs. search needs) (λ c κs. search needs) (λ c κs. search needs) (λ c κs. search needs) returns)

@@ -8,7 +8,7 @@ use Rattle.reading.proofs.step.Step.transition.Tie as tie
 
 returns : tie.Need-returns
 unfolding readTransition
-returns c = (search (record-read, then-read), refl)
+returns c = (search (record-read, then-read) depth 9, refl)
 
 pub transition-spec : {M : Type 1} → statement M
 transition-spec = tie.close (tie.spec (λ c κs. search needs) (λ c κs. search needs) (λ c κs. search needs) (λ c κs. search needs) (λ c κs. search needs) (λ c κs. search needs) (λ c κs. search needs) (λ c κs. search needs) (λ c κs. search needs) returns)
