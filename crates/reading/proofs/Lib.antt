@@ -7,4 +7,5 @@ pub mod Threads
 pub mod Levels
 pub mod Arms
 pub mod Whole
+pub mod Skips
 pub mod Cycle
