@@ -4,6 +4,7 @@ use crate::decode::{answer, decode};
 use crate::encode::{encode, itemise};
 use crate::generate::damage::TELLING;
 use crate::generate::{seeds, Document, Source};
+use crate::lang::ir::Ir;
 use crate::offer::Reader;
 use crate::original::findings;
 use std::collections::BTreeMap;
@@ -21,7 +22,10 @@ struct Class {
 #[derive(Default)]
 struct Tally {
     classes: BTreeMap<&'static str, Class>,
+    /// Documents whose maker knew the answer.
     known: usize,
+    /// Accepted documents the original ran on.
+    judged: usize,
     with_errors: usize,
     with_warnings: usize,
     failed: usize,
@@ -72,30 +76,37 @@ fn sweep_place(read: Reader, tally: &mut Tally, bytes: &[u8], place: usize) {
 impl Tally {
     fn document(&mut self, read: Reader, document: &Document) {
         let decoded = decode(&document.bytes);
-        let ours = answer(&decoded);
-        let theirs = read(&document.bytes);
+        let here = answer(&decoded);
+        let library = read(&document.bytes);
         let class = self.classes.entry(document.class).or_default();
         class.documents += 1;
-        class.agreed += usize::from(ours == theirs);
+        class.agreed += usize::from(here == library);
         class.accepted += usize::from(decoded.is_ok());
         self.known += usize::from(document.due.is_some());
-        if ours != theirs {
-            self.fail(document, &format!("decoder {ours:?}, library {theirs:?}"));
+        if here != library {
+            self.fail(document, &format!("decoder {here:?}, library {library:?}"));
         }
-        if let Some(due) = document.due.filter(|due| *due != ours) {
-            self.fail(document, &format!("decoder {ours:?}, due {due:?}"));
+        if let Some(due) = document.due.filter(|due| *due != here) {
+            self.fail(document, &format!("decoder {here:?}, due {due:?}"));
         }
         if let Ok(ir) = decoded {
-            if encode(&ir) != document.bytes {
-                self.fail(document, "encoding the decoded document gives other bytes");
+            self.accepted(document, &ir);
+        }
+    }
+
+    /// An accepted document is the encoding of its content, and the original
+    /// takes that content.
+    fn accepted(&mut self, document: &Document, ir: &Ir) {
+        if encode(ir) != document.bytes {
+            self.fail(document, "encoding the decoded document gives other bytes");
+        }
+        match catch_unwind(AssertUnwindSafe(|| findings(ir))) {
+            Ok(found) => {
+                self.judged += 1;
+                self.with_errors += usize::from(!found.errors.is_empty());
+                self.with_warnings += usize::from(!found.warnings.is_empty());
             }
-            match catch_unwind(AssertUnwindSafe(|| findings(&ir))) {
-                Ok(found) => {
-                    self.with_errors += usize::from(!found.errors.is_empty());
-                    self.with_warnings += usize::from(!found.warnings.is_empty());
-                }
-                Err(_) => self.fail(document, "the original panics"),
-            }
+            Err(_) => self.fail(document, "the original panics"),
         }
     }
 
@@ -120,14 +131,12 @@ impl Tally {
             all.agreed += class.agreed;
         }
         all.line("all");
+        println!("answers the maker knew: {}", self.known);
         println!(
-            "{} answers known to the maker; accepted documents encode back to their bytes;",
-            self.known
+            "the original ran on {} accepted documents: {} with errors, {} with warnings",
+            self.judged, self.with_errors, self.with_warnings
         );
-        println!(
-            "the original ran on each: {} with errors, {} with warnings; {} failures",
-            self.with_errors, self.with_warnings, self.failed
-        );
+        println!("failures: {}", self.failed);
         self.failed == 0
     }
 }

@@ -10,6 +10,8 @@ mod json;
 mod offer;
 mod original;
 mod samples;
+#[cfg(test)]
+mod tests;
 mod vectors;
 
 /// The original sources, compiled where they stand.

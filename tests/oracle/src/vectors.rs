@@ -7,7 +7,7 @@ use crate::generate::disturb::*;
 use crate::generate::rng::Rng;
 use crate::generate::whole::*;
 use crate::generate::*;
-use std::collections::BTreeMap;
+use std::collections::{BTreeMap, HashSet};
 
 pub const FILE: &str = "vectors.bin";
 
@@ -21,43 +21,40 @@ pub struct Vector {
 }
 
 /// How many patches of each class are kept.
-const PATCHES: [(&str, usize); 15] = [
+const PATCHES: [(&str, usize); 16] = [
     ("torn", 300),
     ("torn tail", 750),
     ("reserved", 150),
     ("padded", 250),
-    ("kind", 450),
-    ("count", 250),
+    ("kind", 350),
+    ("null", 110),
+    ("count", 350),
     ("list length", 60),
-    ("case", 200),
+    ("case", 150),
     ("other case", 80),
-    ("outsize", 220),
-    ("unborn", 12),
+    ("outsize", 460),
+    ("unborn", 20),
     ("smudged", 200),
     ("within", 220),
     ("changed byte", 350),
     ("moved item", 100),
 ];
 
-/// All of them, the same on every run.
+/// All of them, none twice, and the same on every run.
 pub fn vectors() -> Vec<Vector> {
     let rng = &mut Rng::new(SEED);
     let seeds: Vec<Encoded> = seeds::seeds().iter().map(itemise).collect();
-    let mut all = vec![Document {
-        class: "empty",
-        bytes: Vec::new(),
-        due: Some((2, 0)),
-    }];
-    all.extend(
-        seeds::seeds()
-            .iter()
-            .map(|ir| Document::whole("seed", itemise(ir))),
-    );
+    let mut all = vec![Document::new("empty", Vec::new(), Some((2, 0)))];
+    for ir in seeds::seeds() {
+        all.push(Document::whole("seed", itemise(&ir)));
+    }
     all.extend(at_limits(rng));
     all.extend(kept_patches(rng, &seeds));
     all.extend(accepted(rng));
     all.extend(disturbed(rng, &seeds));
-    all.extend(longer(rng));
+    all.extend(longest(rng));
+    let mut seen = HashSet::new();
+    all.retain(|document| seen.insert(document.bytes.clone()));
     all.into_iter().map(judged).collect()
 }
 
@@ -97,19 +94,16 @@ fn at_limits(rng: &mut Rng) -> Vec<Document> {
 /// Patches of the seeds by class, from every place of the grammar in turn.
 fn kept_patches(rng: &mut Rng, seeds: &[Encoded]) -> Vec<Document> {
     let mut all = Vec::new();
-    let mut choice = by_class(seeds);
+    let mut choice = by_class(rng, seeds);
     for (class, most) in PATCHES {
-        let places = choice.get_mut(class).expect("a class of patches");
-        let mut left = most;
-        while left > 0 && places.values().any(|list| !list.is_empty()) {
-            for list in places.values_mut().filter(|list| !list.is_empty()) {
-                let one = rng.below(list.len());
-                let (seed, patch) = list.swap_remove(one);
-                if left > 0 {
-                    all.push(Document::patched(&seeds[seed], &patch));
-                    left -= 1;
-                }
-            }
+        let places = choice.remove(class).expect("a class of patches");
+        let mut lists: Vec<_> = places.into_values().map(Vec::into_iter).collect();
+        let mut kept = Vec::new();
+        while kept.len() < most && !lists.is_empty() {
+            lists.retain_mut(|list| list.next().map(|one| kept.push(one)).is_some());
+        }
+        for (seed, patch) in kept.into_iter().take(most) {
+            all.push(Document::patched(&seeds[seed], &patch));
         }
     }
     all
@@ -118,8 +112,9 @@ fn kept_patches(rng: &mut Rng, seeds: &[Encoded]) -> Vec<Document> {
 /// Patches with the number of their seed, by label of the item.
 type Places = BTreeMap<&'static str, Vec<(usize, Patch)>>;
 
-/// The patches of some items of each label, by class.
-fn by_class(seeds: &[Encoded]) -> BTreeMap<&'static str, Places> {
+/// The patches of some items of each label, by class: those of one item
+/// shuffled, one item after another.
+fn by_class(rng: &mut Rng, seeds: &[Encoded]) -> BTreeMap<&'static str, Places> {
     let mut classes: BTreeMap<&'static str, Places> = BTreeMap::new();
     let mut taken: BTreeMap<(&str, bool), usize> = BTreeMap::new();
     for (number, seed) in seeds.iter().enumerate() {
@@ -129,7 +124,9 @@ fn by_class(seeds: &[Encoded]) -> BTreeMap<&'static str, Places> {
             if *times > 5 {
                 continue;
             }
-            for patch in patches(seed, index) {
+            let mut all = patches(seed, index);
+            rng.shuffle(&mut all);
+            for patch in all {
                 let places = classes.entry(patch.class).or_default();
                 places.entry(item.label).or_default().push((number, patch));
             }
@@ -181,16 +178,20 @@ fn disturbed(rng: &mut Rng, seeds: &[Encoded]) -> Vec<Document> {
 
 type Maker = fn(&mut Rng, &Encoded) -> Document;
 
-/// Over 65,535 bytes: by one and otherwise right, and by more and otherwise
-/// refused at once.
-fn longer(rng: &mut Rng) -> Vec<Document> {
-    let right = Document::whole("bulky", full_of(rng, LONGEST + 1));
-    let wrong = Document {
-        class: "bulky",
-        bytes: vec![0xff; LONGEST + 100],
-        due: Some((1, 0)),
-    };
-    vec![right, wrong]
+/// The last places there are, and over 65,535 bytes: by one and otherwise
+/// right, and by more and otherwise refused at once.
+fn longest(rng: &mut Rng) -> Vec<Document> {
+    let mut torn = full_of(rng, LONGEST);
+    let last = torn.items.last().expect("a document has items").at;
+    torn.bytes.pop();
+    let mut more = full_of(rng, LONGEST - 1).bytes;
+    more.push(0);
+    vec![
+        Document::new("torn", torn.bytes, Some((2, last as u64))),
+        Document::new("overhang", more, Some((8, LONGEST as u64 - 1))),
+        Document::whole("bulky", full_of(rng, LONGEST + 1)),
+        Document::new("bulky", vec![0xff; LONGEST + 100], Some((1, 0))),
+    ]
 }
 
 /// The file: for each vector the length as u32, the document, the number as

@@ -71,6 +71,7 @@ pub fn patches(doc: &Encoded, index: usize) -> Vec<Patch> {
     spot.counts();
     spot.cases();
     spot.over();
+    spot.wrapped();
     spot.smudged();
     spot.within();
     spot.changed();
@@ -259,7 +260,7 @@ impl Spot<'_> {
             self.head("kind", vec![TRUE], self.here(4));
         }
         if !self.item.optional {
-            self.head("kind", vec![NULL], self.here(4));
+            self.head("null", vec![NULL], self.here(4));
         }
     }
 
@@ -344,6 +345,29 @@ impl Spot<'_> {
         }
         if self.item.role == Role::Name {
             self.own("outsize", text(0, b'a'), self.here(5));
+        }
+    }
+
+    /// Arguments that are right but for a power of two.
+    fn wrapped(&mut self) {
+        let Item {
+            role,
+            argument,
+            absent,
+            ..
+        } = self.item;
+        for power in [8, 16, 32] {
+            let value = argument + (1 << power);
+            let (class, number) = match role {
+                _ if absent => return,
+                Role::Record(_) | Role::Choice(_) => ("count", 4),
+                Role::Case(_) | Role::Operator(_) => ("case", 4),
+                Role::List(_) | Role::Name | Role::Version => ("outsize", 5),
+                Role::Word if power == 32 => ("outsize", 5),
+                Role::IrVersion => ("unborn", 9),
+                _ => continue,
+            };
+            self.head(class, head(role.major(), value), self.here(number));
         }
     }
 

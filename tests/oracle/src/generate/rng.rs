@@ -38,4 +38,10 @@ impl Rng {
     pub fn of<T: Copy>(&mut self, entries: &[T]) -> T {
         entries[self.below(entries.len())]
     }
+
+    pub fn shuffle<T>(&mut self, entries: &mut [T]) {
+        for last in (1..entries.len()).rev() {
+            entries.swap(last, self.below(last + 1));
+        }
+    }
 }
