@@ -147,7 +147,7 @@ impl Cursor {
         ensures { λ r. ⌜ r ≡ answer (mapR bit (readBool (now (doc .entry)) (self .at))) ⌝ }
     {
         let at = self.at;
-        let r = self.kind(doc, 7);
+        let r = self.any_kind(doc, 7);
         let Answer::Got(v, next) = r else {
             return r;
         };
