@@ -1,3 +1,6 @@
 -- Laws that belong to no one function, from the lowest to the highest.
 pub mod Rules
 pub mod Gives
+pub mod At
+pub mod HeadSound
+pub mod HeadComplete
