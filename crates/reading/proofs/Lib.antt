@@ -4,3 +4,7 @@ pub mod Gives
 pub mod At
 pub mod HeadSound
 pub mod HeadComplete
+pub mod Blames
+pub mod Items
+pub mod Formats
+pub mod Leaves
