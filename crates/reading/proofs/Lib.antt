@@ -8,3 +8,4 @@ pub mod Blames
 pub mod Items
 pub mod Formats
 pub mod Leaves
+pub mod Combined
