@@ -9,3 +9,10 @@ pub mod Items
 pub mod Formats
 pub mod Leaves
 pub mod Combined
+pub mod Enums
+pub mod ExprLaws
+pub mod DeclLaws
+pub mod PatternLaws
+pub mod TransitionLaws
+pub mod FormulaLaws
+pub mod ModuleLaws
