@@ -16,3 +16,4 @@ pub mod PatternLaws
 pub mod TransitionLaws
 pub mod FormulaLaws
 pub mod ModuleLaws
+pub mod Theorems

@@ -1,11 +1,25 @@
 -- The laws of modules, from those of their fields; and of a document's content, whose first number has a refusal of its own.
-use Prim.Native.Nat.{ℕ, _<_, _≤_}
-use mathlib.Core.Path.{_≡_, refl, _∙_}
+use Prim.Native.Nat.{ℕ, _<_}
+use mathlib.Core.Path.{_≡_, refl}
 use mathlib.Core.List.{List, append-assoc}
+use mathlib.Core.Logic.{_⊎_, inl, inr}
 use native.Mathlib.Omega.{arith}
+use borrow.Author.Tests.{ltb-true}
+use Rattle.reading.specs.Read.{Read, Reader, ok, refused, pick, bind, mapR}
+use Rattle.reading.specs.Item.{readKind, readNumber, readIrVersion, readFields}
+use Rattle.reading.specs.Combine.{_then_, recordOf, listOf}
+use Rattle.reading.specs.Items.{Items}
+use Rattle.reading.specs.declared.fault.Fault.{Fault}
+use Rattle.reading.specs.declared.fault.Fault.the-variants.{UnknownVersion}
+use Rattle.reading.proofs.Rules.{pick-false, bind-ok, map-ok}
+use Rattle.reading.proofs.Gives.{Gives, gives-ok, gives-refused, gives-pick, gives-bind, gives-map}
+use Rattle.reading.proofs.Blames.{Blames, Faults, Inner, blames-ok, blames-refused, blames-pick, blames-bind, blames-map, kind-blames}
+use Rattle.reading.proofs.At.{At}
+use Rattle.reading.proofs.HeadSound.{Bytes}
 use Rattle.reading.specs.Limits.{maxList, maxDepth, maxModules, maxVersion}
 use Rattle.reading.specs.Module.{Property, Module, Ir, readProperty, readModule, readIr, encProperty, encModule, encIr, WithinProperty, WithinModule, WithinIr}
-use Rattle.reading.proofs.Formats.{Laws, Format, of, by-bytes}
+use Rattle.reading.proofs.Formats.{Is, Laws, Format, of, by-bytes, item-sound}
+use Rattle.reading.proofs.Leaves.{number-laws, fields-blames}
 use Rattle.reading.proofs.Combined.{_also_, record-laws, list-laws, option-laws}
 use Rattle.reading.proofs.ExprLaws.{name-laws, name-solid, version-laws, version-solid}
 use Rattle.reading.proofs.DeclLaws.{enum-decl-laws, constructor-group-laws, var-decl-laws}
@@ -35,3 +49,73 @@ module-laws =
       _
       (λ x. (x .name, (x .version, (x .on-error, (x .enums, (x .initial-state, (x .events, (x .outputs, (x .vars, (x .transitions, (x .properties, x .assumptions)))))))))))
       (λ _. refl) (λ _. refl) (omega arith))
+
+-- whatever F accepts, G accepts alike
+abbrev Agree : {A : Type 0} → Reader A → Reader A → Type 0
+Agree F G = (s : List ℕ) (at : ℕ) → Gives (λ x n. G s at ≡ ok x n) (F s at)
+
+then-agrees : {A B : Type 0} {F G : Reader A} (H : Reader B) → Agree F G → Agree (F then H) (G then H)
+unfolding _then_
+then-agrees {F = F} {G = G} H h s at =
+    gives-bind _ _ _ λ a n e. gives-map (λ x m. (G then H) s at ≡ ok x m) (λ b. (a, b)) _ λ b m q. rw (h s at a n e, bind-ok, q, map-ok)
+
+record-agrees : {A B : Type 0} (k : ℕ) {F G : Reader A} (make : A → B) → Agree F G → Agree (recordOf k F make) (recordOf k G make)
+unfolding recordOf
+record-agrees k {F} {G} make h s at =
+    gives-bind _ _ _ λ u n e. gives-map (λ x m. recordOf k G make s at ≡ ok x m) make _ λ a m q. rw (e, bind-ok, h s n a m q, map-ok)
+
+version-agrees : Agree readIrVersion (readNumber maxVersion)
+unfolding readIrVersion readNumber
+version-agrees s at =
+    gives-bind _ _ _ λ v n e. gives-pick _ _ _ _ (λ _. gives-refused _ _ _) λ q. gives-ok (λ x m. readNumber maxVersion s at ≡ ok x m) v n (rw (e, bind-ok, q, pick-false))
+
+number-agrees : Agree (readNumber maxVersion) readIrVersion
+unfolding readIrVersion readNumber
+number-agrees s at =
+    gives-bind _ _ _ λ v n e. gives-pick _ _ _ _ (λ _. gives-refused _ _ _) λ q. gives-ok (λ x m. readIrVersion s at ≡ ok x m) v n (rw (e, bind-ok, q, pick-false))
+
+-- the same with a number of the usual kind
+abbrev plainIr : Reader Ir
+plainIr = recordOf 2 (readNumber maxVersion then listOf maxModules readModule) λ p. record { ir-version = p .0; modules = p .1 }
+
+plain-laws : Laws plainIr encIr WithinIr 1
+unfolding encIr WithinIr
+plain-laws =
+    record-laws (of (number-laws maxVersion (omega arith)) also of (list-laws module-laws maxModules (omega arith))) _ (λ x. (x .ir-version, x .modules)) (λ _. refl) (λ _. refl) (omega arith)
+
+ir-agrees : Agree readIr plainIr
+unfolding readIr
+ir-agrees = record-agrees 2 _ (then-agrees (listOf maxModules readModule) version-agrees)
+
+plain-agrees : Agree plainIr readIr
+unfolding readIr
+plain-agrees = record-agrees 2 _ (then-agrees (listOf maxModules readModule) number-agrees)
+
+pub ir-sound : (s : List ℕ) → Bytes s → (at : ℕ) → Gives (Is WithinIr encIr s at) (readIr s at)
+ir-sound s B at x n e = item-sound plain-laws s B at x n (ir-agrees s at x n e)
+
+pub ir-complete : (s : List ℕ) (at : ℕ) (x : Ir) (n : ℕ) → WithinIr x → At s at (encIr x) n → readIr s at ≡ ok x n
+ir-complete s at x n w a = plain-agrees s at x n (plain-laws .complete s at x n w a)
+
+pub ir-items : (s : List ℕ) (at : ℕ) → Gives (λ _ n. Items s 1 at n) (readIr s at)
+ir-items s at x n e = plain-laws .items s at x n (ir-agrees s at x n e)
+
+-- an ir_version that is too new, at the place p of the document that starts at `at`
+pub record Unborn (s : List ℕ) (at p : ℕ) : Type 0 where
+  pub opens : readFields 2 s at ≡ ok tt p
+  pub version : ℕ
+  pub end : ℕ
+  pub number : readKind 0 s p ≡ ok version end
+  pub newer : maxVersion < version
+
+-- a fault of an item, or 9
+pub ir-blames : (s : List ℕ) (at : ℕ) → Blames (λ f p. Inner f ⊎ ((f ≡ UnknownVersion) × Unborn s at p)) (readIr s at)
+unfolding readIr recordOf _then_ readIrVersion
+ir-blames s at =
+    let Q : Fault → ℕ → Type 0 = λ f p. Inner f ⊎ ((f ≡ UnknownVersion) × Unborn s at p) in
+    blames-bind Q _ _ (λ f p e. inl (fields-blames s at 2 f p e)) λ u n o.
+    blames-map Q _ _
+    (blames-bind Q _ _
+      (blames-bind Q _ _ (λ f p e. inl (kind-blames s n 0 f p e)) λ v m e.
+      blames-pick Q _ _ _ (λ q. blames-refused Q _ _ (inr (refl, record { opens = o; version = v; end = m; number = e; newer = ltb-true _ _ q }))) (λ _. blames-ok Q _ _))
+    λ v m e. blames-map Q _ _ λ f p q. inl (list-laws module-laws maxModules (omega arith) .blames s m f p q))
