@@ -23,9 +23,10 @@ module _ {s : List ℕ} where
   pub at-split : {a c : ℕ} (xs ys : List ℕ) → At s a (xs ++ ys) c → At s a xs (a + length xs) × At s (a + length xs) ys c
   at-split {a} {c} xs ys h =
       let l = length-append xs ys in
-      let d : drop (a + length xs) s ≡ ys ++ drop c s = sym (drop-drop (length xs) a s) ∙ ap (drop (length xs)) (h .bytes ∙ append-assoc xs ys (drop c s)) ∙ drop-append-seam xs (ys ++ drop c s) in
-      (record { end = refl; fits = omega (arith, h .end, h .fits); bytes = h .bytes ∙ append-assoc xs ys (drop c s) ∙ ap (λ (z : List ℕ). xs ++ z) (sym d) },
-       record { end = omega (arith, h .end); fits = h .fits; bytes = d })
+      let d : drop (a + length xs) s ≡ ys ++ drop c s = sym (drop-drop (length xs) a s) ∙ ap (drop (length xs)) (h .bytes ∙ append-assoc xs ys (drop c s)) ∙ drop-append-seam xs (ys ++ drop c s) in (
+        record { end = refl; fits = omega (arith, h .end, h .fits); bytes = h .bytes ∙ append-assoc xs ys (drop c s) ∙ ap (λ (z : List ℕ). xs ++ z) (sym d) },
+        record { end = omega (arith, h .end); fits = h .fits; bytes = d },
+      )
 
   pub at-nil : {a : ℕ} → a ≤ length s → At s a [] a
   at-nil h = record { end = omega arith; fits = h; bytes = refl }

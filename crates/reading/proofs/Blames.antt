@@ -69,8 +69,8 @@ module _ (s : List ℕ) (at : ℕ) where
       blames-pick Faults _ _ _ (λ _. out at torn) λ _.
       blames-pick Faults _ _ _ (λ _. out at padded) λ _.
       blames-pick Faults _ _ _ (λ _.
-        blames-pick Faults _ _ _ (λ _. out at misfiled) λ _.
-        blames-pick Faults _ _ _ (λ _. out at misfiled) λ _. blames-ok Faults _ _) λ _.
+      blames-pick Faults _ _ _ (λ _. out at misfiled) λ _.
+      blames-pick Faults _ _ _ (λ _. out at misfiled) λ _. blames-ok Faults _ _) λ _.
       blames-pick Faults _ _ _ (λ _. blames-ok Faults _ _) λ _.
       blames-pick Faults _ _ _ (λ _. long-blames _ _ _ _) λ _.
       blames-pick Faults _ _ _ (λ _. long-blames _ _ _ _) λ _.

@@ -55,14 +55,14 @@ module _ {A B : Type 0} (F : Format A) (G : Format B) where
   unfolding _then_
   both-laws = record {
     sound = λ s B at h.
-      gives-bind _ _ _ λ a n e. gives-map (Is WithinBoth encBoth s at) _ _ λ b m q.
-      let i = F .laws .sound s B at h a n e in
-      let j = G .laws .sound s B n (i .there .fits) b m q in
-      record { within = (i .within, j .within); there = at-join (i .there) (j .there) };
+        gives-bind _ _ _ λ a n e. gives-map (Is WithinBoth encBoth s at) _ _ λ b m q.
+        let i = F .laws .sound s B at h a n e in
+        let j = G .laws .sound s B n (i .there .fits) b m q in
+        record { within = (i .within, j .within); there = at-join (i .there) (j .there) };
     complete = both-complete;
     items = λ s at.
-      gives-bind _ _ _ λ a n e. gives-map (λ _ m. Items s (F .count + G .count) at m) _ _ λ b m q.
-      items-join (F .laws .items s at a n e) (G .laws .items s n b m q);
+        gives-bind _ _ _ λ a n e. gives-map (λ _ m. Items s (F .count + G .count) at m) _ _ λ b m q.
+        items-join (F .laws .items s at a n e) (G .laws .items s n b m q);
     blames = λ s at. blames-bind Faults _ _ (F .laws .blames s at) λ a n e. blames-map Faults _ _ (G .laws .blames s n);
   }
 
@@ -70,7 +70,6 @@ module _ {A B : Type 0} (F : Format A) (G : Format B) where
   _also_ = of both-laws
 
 infixr 50 _also_
-
 -- a record: an array of its fields
 module _ {A B : Type 0} (F : Format A) (make : A → B) (parts : B → A) (back : (a : A) → parts (make a) ≡ a) (there : (b : B) → make (parts b) ≡ b) (small : F .count ≤ maxU64) where
   abbrev WithinParts : B → Type 0
@@ -89,17 +88,17 @@ module _ {A B : Type 0} (F : Format A) (make : A → B) (parts : B → A) (back 
   unfolding recordOf
   record-laws = record {
     sound = λ s B at h.
-      gives-bind _ _ _ λ _ n e. gives-map (Is WithinParts encParts s at) _ _ λ a m q.
-      let i = kind-sound s B 4 at _ n (fields-kind s at (F .count) tt n e) .there in
-      let j = F .laws .sound s B n (i .fits) a m q in
-      record {
-        within = subst (λ (z : A). F .Within z) (sym (back a)) (j .within);
-        there = at-join i (subst (λ (z : A). At s n (F .enc z) m) (sym (back a)) (j .there));
-      };
+        gives-bind _ _ _ λ _ n e. gives-map (Is WithinParts encParts s at) _ _ λ a m q.
+        let i = kind-sound s B 4 at _ n (fields-kind s at (F .count) tt n e) .there in
+        let j = F .laws .sound s B n (i .fits) a m q in
+        record {
+          within = subst (λ (z : A). F .Within z) (sym (back a)) (j .within);
+          there = at-join i (subst (λ (z : A). At s n (F .enc z) m) (sym (back a)) (j .there));
+        };
     complete = record-complete;
     items = λ s at.
-      gives-bind _ _ _ λ _ n e. gives-map (λ _ m. Items s 1 at m) _ _ λ a m q.
-      array-item (fields-kind s at (F .count) tt n e) (F .laws .items s n a m q);
+        gives-bind _ _ _ λ _ n e. gives-map (λ _ m. Items s 1 at m) _ _ λ a m q.
+        array-item (fields-kind s at (F .count) tt n e) (F .laws .items s n a m q);
     blames = λ s at. blames-bind Faults _ _ (fields-blames s at (F .count)) λ _ n e. blames-map Faults _ _ (F .laws .blames s n);
   }
 
@@ -150,14 +149,14 @@ module _ {A : Type 0} {read : Reader A} {enc : A → List ℕ} {Within : A → T
     unfolding listOf encList
     list-laws = record {
       sound = λ s B at h.
-        gives-bind _ _ _ λ c n q xs m r.
-        let i = count-kind s at limit c n q in
-        let k = kind-sound s B 4 at c n (i .0) .there in
-        let t = entries-sound s B c n (k .fits) xs m r in
-        record {
-          within = record { most = omega (arith, t .many, i .1); each = t .each };
-          there = at-join (subst (λ (z : ℕ). At s at (encHead 4 z) n) (sym (t .many)) k) (t .there);
-        };
+          gives-bind _ _ _ λ c n q xs m r.
+          let i = count-kind s at limit c n q in
+          let k = kind-sound s B 4 at c n (i .0) .there in
+          let t = entries-sound s B c n (k .fits) xs m r in
+          record {
+            within = record { most = omega (arith, t .many, i .1); each = t .each };
+            there = at-join (subst (λ (z : ℕ). At s at (encHead 4 z) n) (sym (t .many)) k) (t .there);
+          };
       complete = list-complete;
       items = λ s at. gives-bind _ _ _ λ c n q xs m r. array-item (count-kind s at limit c n q .0) (entries-items s c n xs m r);
       blames = λ s at. blames-bind Faults _ _ (count-blames s at limit) λ c n _. entries-blames s c n;
@@ -216,16 +215,16 @@ module _ {A : Type 0} {read : Reader A} {enc : A → List ℕ} {Within : A → T
   unfolding optional encOption WithinOption put1
   option-laws = record {
     sound = λ s B at h.
-      gives-pick _ _ _ _ (λ q.
+        gives-pick _ _ _ _ (λ q.
         let e = eqb-true (getD s at 0) 246 q in
         gives-ok (Is (WithinOption Within) (encOption enc) s at) none (at + 1) (record {
           within = tt;
           there = subst (λ (z : ℕ). At s at (z ∷ []) (at + 1)) e (at-byte at (null-inside s at e));
         }))
-      (λ _. gives-map (Is (WithinOption Within) (encOption enc) s at) _ _ λ x n e. let i = L .sound s B at h x n e in record { within = i .within; there = i .there });
+        (λ _. gives-map (Is (WithinOption Within) (encOption enc) s at) _ _ λ x n e. let i = L .sound s B at h x n e in record { within = i .within; there = i .there });
     complete = option-complete;
     items = λ s at.
-      gives-pick _ _ _ _ (λ q. gives-ok (λ _ n. Items s 1 at n) none (at + 1) (plain-item 7 refl refl (null-kind s at (eqb-true _ _ q))))
-      (λ _. gives-map (λ _ n. Items s 1 at n) _ _ λ x n e. L .items s at x n e);
+        gives-pick _ _ _ _ (λ q. gives-ok (λ _ n. Items s 1 at n) none (at + 1) (plain-item 7 refl refl (null-kind s at (eqb-true _ _ q))))
+        (λ _. gives-map (λ _ n. Items s 1 at n) _ _ λ x n e. L .items s at x n e);
     blames = λ s at. blames-pick Faults _ _ _ (λ _. blames-ok Faults _ _) (λ _. blames-map Faults _ _ (L .blames s at));
   }

@@ -85,8 +85,8 @@ module _ {A : Type 0} {enc : A → List ℕ} {Within : A → Type 0} where
 
   -- the case k with its fields, then the others
   module _ {X : Type 0} (k : ℕ) (F : Format X) (make : X → A)
-    (says : (x : X) → _≡_ {A = Said} (record { bytes = enc (make x); limits = Within (make x) }) (record { bytes = encCase (suc (F .count)) k (F .enc x); limits = F .Within x }))
-    (small : T (ltb (F .count + k) 99)) (rest : Rows enc Within) where
+      (says : (x : X) → _≡_ {A = Said} (record { bytes = enc (make x); limits = Within (make x) }) (record { bytes = encCase (suc (F .count)) k (F .enc x); limits = F .Within x }))
+      (small : T (ltb (F .count + k) 99)) (rest : Rows enc Within) where
     abbrev pub row-read : Cases A
     row-read = row k (suc (F .count)) (F .read) make (rest .read)
 
@@ -99,7 +99,7 @@ module _ {A : Type 0} {enc : A → List ℕ} {Within : A → Type 0} where
     row-sound s B at t n h = row-gives (Is Within enc s at) s t n (λ q c x m e.
         let i = F .laws .sound s B n (h .number .fits) x m e in
         let a : At s at (encCase (suc (F .count)) k (F .enc x)) m =
-              at-join (at-join (subst (λ (z : ℕ). At s at (encHead 4 z) (t .place)) c (h .array)) (subst (λ (z : ℕ). At s (t .place) (encHead 0 z) n) q (h .number))) (i .there) in
+        at-join (at-join (subst (λ (z : ℕ). At s at (encHead 4 z) (t .place)) c (h .array)) (subst (λ (z : ℕ). At s (t .place) (encHead 0 z) n) q (h .number))) (i .there) in
         record {
           within = subst⁻¹ (λ (z : Said). z .limits) (says x) (i .within);
           there = subst⁻¹ (λ (z : Said). At s at (z .bytes) m) (says x) a;
@@ -161,20 +161,28 @@ module _ {A : Type 0} {enc : A → List ℕ} {Within : A → Type 0} where
         let b : At s at (encCase (o .items) (is x .0) (o .fields)) n = subst (λ (z : List ℕ). At s at z n) (o .bytes) a in
         let k = at-split (encHead 4 (o .items) ++ encHead 0 (is x .0)) (o .fields) b in
         let j = at-split (encHead 4 (o .items)) (encHead 0 (is x .0)) (k .0) in
-        rw (kind-complete s 4 at (o .items) _ (omega arith) (omega (arith, o .small .0)) (j .0), bind-ok, ne-eqb (o .items) 0 (o .some), pick-false,
-          kind-complete s 0 _ (is x .0) _ (omega arith) (omega (arith, o .small .1)) (j .1), bind-ok, bind-ok, o .reads s at _ _ n (k .1))
+        rw (
+          kind-complete s 4 at (o .items) _ (omega arith) (omega (arith, o .small .0)) (j .0),
+          bind-ok,
+          ne-eqb (o .items) 0 (o .some),
+          pick-false,
+          kind-complete s 0 _ (is x .0) _ (omega arith) (omega (arith, o .small .1)) (j .1),
+          bind-ok,
+          bind-ok,
+          o .reads s at _ _ n (k .1),
+        )
 
     pub enum-laws : Laws (enumOf (C .read)) enc Within 1
     unfolding enumOf
     enum-laws = record {
       sound = λ s B at _. gives-bind _ _ _ λ t n e.
-        let h = tag-kinds s at t n e in
-        C .sound s B at t n (record { array = kind-sound s B 4 at _ _ (h .array) .there; number = kind-sound s B 0 _ _ n (h .number) .there });
+          let h = tag-kinds s at t n e in
+          C .sound s B at t n (record { array = kind-sound s B 4 at _ _ (h .array) .there; number = kind-sound s B 0 _ _ n (h .number) .there });
       complete = enum-complete;
       items = λ s at. gives-bind _ _ _ λ t n e x m q.
-        let h = tag-kinds s at t n e in
-        let f = C .items s t n x m q in
-        let c : 1 + f .fields ≡ t .count = omega (arith, f .count) in
-        array-item (h .array) (subst (λ (z : ℕ). Items s z (t .place) m) c (items-join (plain-item 0 refl refl (h .number)) (f .items)));
+          let h = tag-kinds s at t n e in
+          let f = C .items s t n x m q in
+          let c : 1 + f .fields ≡ t .count = omega (arith, f .count) in
+          array-item (h .array) (subst (λ (z : ℕ). Items s z (t .place) m) c (items-join (plain-item 0 refl refl (h .number)) (f .items)));
       blames = λ s at. blames-bind Faults _ _ (tag-blames s at) λ t n _. C .blames s t n;
     }

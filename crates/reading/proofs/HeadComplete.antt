@@ -71,30 +71,30 @@ module _ (s : List ℕ) where
     unfolding headWith wideHead simple put8 put4 put2 put1
     head-complete n v64 s7 h =
         by (ltb v 24) (λ t.
-          let l : v < 24 = ltb-true v 24 t in
-          let a : At s at (put1 (m * 32 + v)) n = rw (enc0 m v l) at h in
-          let f = at-first a in
-          let z : n ≡ at + 1 = a .end in
-          parts v (omega arith) (f .0) (f .1) ∙
-          by (eqb m 7) (λ q.
-            let e : m ≡ 7 = eqb-true m 7 q in
-            let w = s7 e in
-            rw (le-ltb 27 v (omega arith), pick-false, q, pick-true, le-ltb v 20 (w .0), pick-false, le-ltb 22 v (w .1), pick-false, z, e))
-          (λ q. rw (le-ltb 27 v (omega arith), pick-false, q, pick-false, t, pick-true, z)))
+        let l : v < 24 = ltb-true v 24 t in
+        let a : At s at (put1 (m * 32 + v)) n = rw (enc0 m v l) at h in
+        let f = at-first a in
+        let z : n ≡ at + 1 = a .end in
+        parts v (omega arith) (f .0) (f .1) ∙
+        by (eqb m 7) (λ q.
+        let e : m ≡ 7 = eqb-true m 7 q in
+        let w = s7 e in
+        rw (le-ltb 27 v (omega arith), pick-false, q, pick-true, le-ltb v 20 (w .0), pick-false, le-ltb 22 v (w .1), pick-false, z, e))
+        (λ q. rw (le-ltb 27 v (omega arith), pick-false, q, pick-false, t, pick-true, z)))
         λ t.
         let g : 24 ≤ v = ltb-false v 24 t in
         let no7 : m ≡ 7 → ⊥ = λ e. let w = s7 e in omega arith in
         let q = ne-eqb m 7 no7 in
         by (ltb v 256) (λ u.
-          long 24 1 24 be1 (put1 v) n refl g (un1 (at + 1) v n) (omega arith) (rw (enc1 m v g (ltb-true v 256 u)) at h) (simp (pick-true, pick-false, q)))
+        long 24 1 24 be1 (put1 v) n refl g (un1 (at + 1) v n) (omega arith) (rw (enc1 m v g (ltb-true v 256 u)) at h) (simp (pick-true, pick-false, q)))
         λ u.
         let g1 : 256 ≤ v = ltb-false v 256 u in
         by (ltb v 65536) (λ w.
-          long 25 2 256 be2 (put2 v) n refl g1 (un2 (at + 1) v n) (omega arith) (rw (enc2 m v g1 (ltb-true v 65536 w)) at h) (simp (pick-true, pick-false, q)))
+        long 25 2 256 be2 (put2 v) n refl g1 (un2 (at + 1) v n) (omega arith) (rw (enc2 m v g1 (ltb-true v 65536 w)) at h) (simp (pick-true, pick-false, q)))
         λ w.
         let g2 : 65536 ≤ v = ltb-false v 65536 w in
         by (ltb v 4294967296) (λ x.
-          long 26 4 65536 be4 (put4 v) n refl g2 (un4 (at + 1) v n) (omega arith) (rw (enc4 m v g2 (ltb-true v 4294967296 x)) at h) (simp (pick-true, pick-false, q)))
+        long 26 4 65536 be4 (put4 v) n refl g2 (un4 (at + 1) v n) (omega arith) (rw (enc4 m v g2 (ltb-true v 4294967296 x)) at h) (simp (pick-true, pick-false, q)))
         λ x.
         let g3 : 4294967296 ≤ v = ltb-false v 4294967296 x in
         long 27 8 4294967296 be8 (put8 v) n refl g3 (un8 (at + 1) v n) (omega arith) (rw (enc8 m v g3) at h) (simp (pick-true, pick-false, q))

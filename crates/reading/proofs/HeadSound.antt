@@ -129,28 +129,28 @@ module _ (s : List ℕ) (B : Bytes s) (at : ℕ) (h : at < length s) where
   with-sound =
       gives-pick (HeadAt s at) _ _ _ (λ _. gives-refused (HeadAt s at) _ _) λ t.
       gives-pick (HeadAt s at) _ _ _ (λ m7.
-        gives-pick (HeadAt s at) _ _ _ (λ _. gives-refused (HeadAt s at) _ _) λ l.
-        gives-pick (HeadAt s at) _ _ _ (λ _. gives-refused (HeadAt s at) _ _) λ u.
-        let q : getD s at 0 / 32 ≡ 7 = eqb-true (getD s at 0 / 32) 7 m7 in
-        let x : getD s at 0 % 32 < 24 = omega (arith, ltb-false 22 (getD s at 0 % 32) u) in
-        gives-ok (HeadAt s at) (record { major = 7; argument = getD s at 0 % 32 }) (at + 1) (record {
-          kinds = omega arith;
-          small = omega arith;
-          there = rw (enc0 7 (getD s at 0 % 32) x) (subst (λ (z : ℕ). At s at (put1 (z * 32 + getD s at 0 % 32)) (at + 1)) q (first (getD s at 0 % 32) refl));
-        })) λ m7.
+      gives-pick (HeadAt s at) _ _ _ (λ _. gives-refused (HeadAt s at) _ _) λ l.
+      gives-pick (HeadAt s at) _ _ _ (λ _. gives-refused (HeadAt s at) _ _) λ u.
+      let q : getD s at 0 / 32 ≡ 7 = eqb-true (getD s at 0 / 32) 7 m7 in
+      let x : getD s at 0 % 32 < 24 = omega (arith, ltb-false 22 (getD s at 0 % 32) u) in
+      gives-ok (HeadAt s at) (record { major = 7; argument = getD s at 0 % 32 }) (at + 1) (record {
+        kinds = omega arith;
+        small = omega arith;
+        there = rw (enc0 7 (getD s at 0 % 32) x) (subst (λ (z : ℕ). At s at (put1 (z * 32 + getD s at 0 % 32)) (at + 1)) q (first (getD s at 0 % 32) refl));
+      })) λ m7.
       gives-pick (HeadAt s at) _ _ _ (λ l.
-        let x : getD s at 0 % 32 < 24 = ltb-true _ _ l in
-        gives-ok (HeadAt s at) (record { major = getD s at 0 / 32; argument = getD s at 0 % 32 }) (at + 1) (record {
-          kinds = major8;
-          small = omega arith;
-          there = rw (enc0 (getD s at 0 / 32) (getD s at 0 % 32) x) (first _ refl);
-        })) λ l.
+      let x : getD s at 0 % 32 < 24 = ltb-true _ _ l in
+      gives-ok (HeadAt s at) (record { major = getD s at 0 / 32; argument = getD s at 0 % 32 }) (at + 1) (record {
+        kinds = major8;
+        small = omega arith;
+        there = rw (enc0 (getD s at 0 / 32) (getD s at 0 % 32) x) (first _ refl);
+      })) λ l.
       gives-pick (HeadAt s at) _ _ _ (λ q.
-        long-sound 24 1 24 be1 put1 (at1 s B (at + 1)) (omega (arith, b1 s B (at + 1))) (λ k. enc1 _ _ k (b1 s B (at + 1))) (eqb-true _ _ q)) λ n24.
+      long-sound 24 1 24 be1 put1 (at1 s B (at + 1)) (omega (arith, b1 s B (at + 1))) (λ k. enc1 _ _ k (b1 s B (at + 1))) (eqb-true _ _ q)) λ n24.
       gives-pick (HeadAt s at) _ _ _ (λ q.
-        long-sound 25 2 256 be2 put2 (at2 s B (at + 1)) (omega (arith, b2 s B (at + 1))) (λ k. enc2 _ _ k (b2 s B (at + 1))) (eqb-true _ _ q)) λ n25.
+      long-sound 25 2 256 be2 put2 (at2 s B (at + 1)) (omega (arith, b2 s B (at + 1))) (λ k. enc2 _ _ k (b2 s B (at + 1))) (eqb-true _ _ q)) λ n25.
       gives-pick (HeadAt s at) _ _ _ (λ q.
-        long-sound 26 4 65536 be4 put4 (at4 s B (at + 1)) (omega (arith, b4 s B (at + 1))) (λ k. enc4 _ _ k (b4 s B (at + 1))) (eqb-true _ _ q)) λ n26.
+      long-sound 26 4 65536 be4 put4 (at4 s B (at + 1)) (omega (arith, b4 s B (at + 1))) (λ k. enc4 _ _ k (b4 s B (at + 1))) (eqb-true _ _ q)) λ n26.
       let y : getD s at 0 % 32 ≡ 27 = omega (arith, ltb-false 27 (getD s at 0 % 32) t, ltb-false (getD s at 0 % 32) 24 l, eqb-false (getD s at 0 % 32) 24 n24, eqb-false (getD s at 0 % 32) 25 n25, eqb-false (getD s at 0 % 32) 26 n26) in
       long-sound 27 8 4294967296 be8 put8 (at8 s B (at + 1)) (b8 s B (at + 1)) (λ k. enc8 _ _ k) y
 

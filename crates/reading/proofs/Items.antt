@@ -36,9 +36,9 @@ module _ (s : List ℕ) (at : ℕ) where
       let h : at < length s = leb-false (length s) at e in
       gives-pick (Ahead s at) _ _ _ (λ e. gives-refused (Ahead s at) _ _) λ _.
       gives-pick (Ahead s at) _ _ _ (λ _.
-        gives-pick (Ahead s at) _ _ _ (λ e. gives-refused (Ahead s at) _ _) λ _.
-        gives-pick (Ahead s at) _ _ _ (λ e. gives-refused (Ahead s at) _ _) λ _.
-        gives-ok (Ahead s at) _ _ (record { inside = h; past = omega arith; short = λ i. refl })) λ _.
+      gives-pick (Ahead s at) _ _ _ (λ e. gives-refused (Ahead s at) _ _) λ _.
+      gives-pick (Ahead s at) _ _ _ (λ e. gives-refused (Ahead s at) _ _) λ _.
+      gives-ok (Ahead s at) _ _ (record { inside = h; past = omega arith; short = λ i. refl })) λ _.
       gives-pick (Ahead s at) _ _ _ (λ _. gives-ok (Ahead s at) _ _ (record { inside = h; past = omega arith; short = λ i. refl })) λ _.
       gives-pick (Ahead s at) _ _ _ (λ _. long-ahead _ _ _ _ (omega arith) h) λ _.
       gives-pick (Ahead s at) _ _ _ (λ _. long-ahead _ _ _ _ (omega arith) h) λ _.
@@ -50,7 +50,7 @@ module _ (s : List ℕ) (at : ℕ) where
   kind-head due =
       gives-bind _ _ _ λ h n e.
       gives-pick _ _ _ _ (λ q. gives-ok (λ v n. readHead s at ≡ ok (record { major = due; argument = v }) n) (h .argument) n
-        (e ∙ ap (λ (z : ℕ). ok (record { major = z; argument = h .argument }) n) (eqb-true _ _ q)))
+      (e ∙ ap (λ (z : ℕ). ok (record { major = z; argument = h .argument }) n) (eqb-true _ _ q)))
       (λ _. gives-refused _ _ _)
 
 module _ {s : List ℕ} where

@@ -36,11 +36,11 @@ module _ (s : List ℕ) (B : Bytes s) where
   kind-sound due at =
       gives-bind _ _ _ λ h n e.
       gives-pick _ _ _ _ (λ q.
-        let k = head-sound s B at h n e in
-        gives-ok (Is (AtMost maxU64) (encHead due) s at) (h .argument) n (record {
-          within = omega (arith, k .small);
-          there = subst (λ (z : ℕ). At s at (encHead z (h .argument)) n) (eqb-true _ _ q) (k .there);
-        }))
+      let k = head-sound s B at h n e in
+      gives-ok (Is (AtMost maxU64) (encHead due) s at) (h .argument) n (record {
+        within = omega (arith, k .small);
+        there = subst (λ (z : ℕ). At s at (encHead z (h .argument)) n) (eqb-true _ _ q) (k .there);
+      }))
       (λ _. gives-refused _ _ _)
 
 module _ (s : List ℕ) where
@@ -168,8 +168,8 @@ bool-blames s at =
 pub bool-laws : Laws readBool encBool (λ _. Unit {0}) 1
 bool-laws = record {
   sound = λ s B at _ b n e.
-    let k = bool-kind s at b n e in
-    record { within = tt; there = subst (λ (z : List ℕ). At s at z n) (k .2) (kind-sound s B 7 at (k .0) n (k .1) .there) };
+      let k = bool-kind s at b n e in
+      record { within = tt; there = subst (λ (z : List ℕ). At s at z n) (k .2) (kind-sound s B 7 at (k .0) n (k .1) .there) };
   complete = bool-complete;
   items = λ s at b n e. plain-item 7 refl refl (bool-kind s at b n e .1);
   blames = bool-blames;
@@ -191,15 +191,15 @@ module _ (least : ℕ) (alphabet : ℕ → Bool) where
       gives-pick _ _ _ _ (λ _. gives-refused _ _ _) λ u.
       gives-pick _ _ _ _ (λ _. gives-refused _ _ _) λ t.
       gives-pick _ _ _ _ (λ q.
-        let f : len ≤ length s - n = ltb-false _ _ t in
-        let h : n ≤ length s = kind-fits s at 3 len n e in
-        let k : length (take len (drop n s)) ≡ len = length-take-le len (drop n s) (rw (length-drop n s) f) in
-        gives-ok (TextAt least alphabet s at) (take len (drop n s)) (n + len) (record {
-          within = record { enough = rw k (ltb-false len least l); most = rw k (ltb-false maxText len u); each = q };
-          from = n;
-          head = rw k e;
-          there = record { end = rw k; fits = omega arith; bytes = sym (take-append-drop len (drop n s)) ∙ ap (λ (z : List ℕ). take len (drop n s) ++ z) (drop-drop len n s) };
-        }))
+      let f : len ≤ length s - n = ltb-false _ _ t in
+      let h : n ≤ length s = kind-fits s at 3 len n e in
+      let k : length (take len (drop n s)) ≡ len = length-take-le len (drop n s) (rw (length-drop n s) f) in
+      gives-ok (TextAt least alphabet s at) (take len (drop n s)) (n + len) (record {
+        within = record { enough = rw k (ltb-false len least l); most = rw k (ltb-false maxText len u); each = q };
+        from = n;
+        head = rw k e;
+        there = record { end = rw k; fits = omega arith; bytes = sym (take-append-drop len (drop n s)) ∙ ap (λ (z : List ℕ). take len (drop n s) ++ z) (drop-drop len n s) };
+      }))
       (λ _. gives-refused _ _ _)
 
   text-complete : (s : List ℕ) (at : ℕ) (w : Name) (n : ℕ) → WithinText least alphabet w → At s at (encText w) n → readText least alphabet s at ≡ ok w n
@@ -211,8 +211,20 @@ module _ (least : ℕ) (alphabet : ℕ → Bool) where
       let e = kind-complete s 3 at (length w) _ (omega arith) l (k .0) in
       let f : length w ≤ length s - p = omega (arith, k .1 .end, k .1 .fits) in
       let t : take (length w) (drop p s) ≡ w = ap (take (length w)) (k .1 .bytes) ∙ take-append-seam w (drop n s) in
-      rw (e, bind-ok, le-ltb (length w) least (i .enough), pick-false, le-ltb maxText (length w) (i .most), pick-false,
-        le-ltb (length s - p) (length w) f, pick-false, t, i .each, pick-true, k .1 .end)
+      rw (
+        e,
+        bind-ok,
+        le-ltb (length w) least (i .enough),
+        pick-false,
+        le-ltb maxText (length w) (i .most),
+        pick-false,
+        le-ltb (length s - p) (length w) f,
+        pick-false,
+        t,
+        i .each,
+        pick-true,
+        k .1 .end,
+      )
 
   text-items : (s : List ℕ) (at : ℕ) → Gives (λ _ n. Items s 1 at n) (readText least alphabet s at)
   text-items s at w n e = let k = text-at s at w n e in subst (λ (z : ℕ). Items s 1 at z) (sym (k .there .end)) (text-item (k .head))
@@ -230,8 +242,8 @@ module _ (least : ℕ) (alphabet : ℕ → Bool) where
   unfolding encText
   text-laws = record {
     sound = λ s B at _ w n e.
-      let k = text-at s at w n e in
-      record { within = k .within; there = at-join (kind-sound s B 3 at (length w) (k .from) (k .head) .there) (k .there) };
+        let k = text-at s at w n e in
+        record { within = k .within; there = at-join (kind-sound s B 3 at (length w) (k .from) (k .head) .there) (k .there) };
     complete = text-complete;
     items = text-items;
     blames = text-blames;

@@ -35,20 +35,20 @@ unfolding readModule encModule WithinModule
 module-laws =
     by-bytes (λ _. simp append-assoc)
     (record-laws
-      (of name-laws
-      also of (option-laws version-laws version-solid)
-      also of (option-laws on-error-laws on-error-solid)
-      also of (list-laws enum-decl-laws maxList (omega arith))
-      also of (option-laws name-laws name-solid)
-      also of (list-laws constructor-group-laws maxList (omega arith))
-      also of (list-laws constructor-group-laws maxList (omega arith))
-      also of (list-laws var-decl-laws maxList (omega arith))
-      also of (list-laws transition-laws maxList (omega arith))
-      also of (list-laws property-laws maxList (omega arith))
-      also of (list-laws property-laws maxList (omega arith)))
-      _
-      (λ x. (x .name, (x .version, (x .on-error, (x .enums, (x .initial-state, (x .events, (x .outputs, (x .vars, (x .transitions, (x .properties, x .assumptions)))))))))))
-      (λ _. refl) (λ _. refl) (omega arith))
+    (of name-laws
+    also of (option-laws version-laws version-solid)
+    also of (option-laws on-error-laws on-error-solid)
+    also of (list-laws enum-decl-laws maxList (omega arith))
+    also of (option-laws name-laws name-solid)
+    also of (list-laws constructor-group-laws maxList (omega arith))
+    also of (list-laws constructor-group-laws maxList (omega arith))
+    also of (list-laws var-decl-laws maxList (omega arith))
+    also of (list-laws transition-laws maxList (omega arith))
+    also of (list-laws property-laws maxList (omega arith))
+    also of (list-laws property-laws maxList (omega arith)))
+    _
+    (λ x. (x .name, (x .version, (x .on-error, (x .enums, (x .initial-state, (x .events, (x .outputs, (x .vars, (x .transitions, (x .properties, x .assumptions)))))))))))
+    (λ _. refl) (λ _. refl) (omega arith))
 
 -- whatever F accepts, G accepts alike
 abbrev Agree : {A : Type 0} → Reader A → Reader A → Type 0
@@ -116,6 +116,6 @@ ir-blames s at =
     blames-bind Q _ _ (λ f p e. inl (fields-blames s at 2 f p e)) λ u n o.
     blames-map Q _ _
     (blames-bind Q _ _
-      (blames-bind Q _ _ (λ f p e. inl (kind-blames s n 0 f p e)) λ v m e.
-      blames-pick Q _ _ _ (λ q. blames-refused Q _ _ (inr (refl, record { opens = o; version = v; end = m; number = e; newer = ltb-true _ _ q }))) (λ _. blames-ok Q _ _))
+    (blames-bind Q _ _ (λ f p e. inl (kind-blames s n 0 f p e)) λ v m e.
+    blames-pick Q _ _ _ (λ q. blames-refused Q _ _ (inr (refl, record { opens = o; version = v; end = m; number = e; newer = ltb-true _ _ q }))) (λ _. blames-ok Q _ _))
     λ v m e. blames-map Q _ _ λ f p q. inl (list-laws module-laws maxModules (omega arith) .blames s m f p q))

@@ -26,7 +26,7 @@ unfolding readOutputExpr encOutputExpr WithinOutputExpr
 output-expr-laws =
     by-bytes (λ _. simp append-assoc)
     (record-laws (of name-laws also of (option-laws name-laws name-solid) also of (list-laws top-expr-laws maxList (omega arith))) _
-      (λ x. (x .group, (x .variant, x .args))) (λ _. refl) (λ _. refl) (omega arith))
+    (λ x. (x .group, (x .variant, x .args))) (λ _. refl) (λ _. refl) (omega arith))
 
 pub assignment-laws : Laws readAssignment encAssignment WithinAssignment 1
 unfolding readAssignment encAssignment WithinAssignment
@@ -46,12 +46,12 @@ unfolding readTransition encTransition WithinTransition
 transition-laws =
     by-bytes (λ _. simp append-assoc)
     (record-laws
-      (u64
-      also of name-laws
-      also of pattern-laws
-      also of (option-laws top-expr-laws top-expr-solid)
-      also of name-laws
-      also of (list-laws output-expr-laws maxList (omega arith))
-      also of (list-laws assignment-laws maxList (omega arith))
-      also of (option-laws (number-laws maxU32 (omega arith)) (number-solid maxU32)))
-      _ (λ x. (x .id, (x .state, (x .pattern, (x .guard, (x .next-state, (x .emits, (x .assignments, x .priority)))))))) (λ _. refl) (λ _. refl) (omega arith))
+    (u64
+    also of name-laws
+    also of pattern-laws
+    also of (option-laws top-expr-laws top-expr-solid)
+    also of name-laws
+    also of (list-laws output-expr-laws maxList (omega arith))
+    also of (list-laws assignment-laws maxList (omega arith))
+    also of (option-laws (number-laws maxU32 (omega arith)) (number-solid maxU32)))
+    _ (λ x. (x .id, (x .state, (x .pattern, (x .guard, (x .next-state, (x .emits, (x .assignments, x .priority)))))))) (λ _. refl) (λ _. refl) (omega arith))
