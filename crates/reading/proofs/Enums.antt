@@ -62,6 +62,13 @@ module _ {A : Type 0} (enc : A → List ℕ) (Within : A → Type 0) where
     pub items : (s : List ℕ) (t : Tag) (n : ℕ) → Gives (λ _ m. Filled s t n m) (read s t n)
     pub blames : (s : List ℕ) (t : Tag) (n : ℕ) → Blames Faults (read s t n)
 
+-- what holds of the fields, where case and count are right, holds of the value
+pub row-gives : {X A : Type 0} (k items : ℕ) (F : Reader X) (make : X → A) (rest : Cases A) (P : A → ℕ → Type 0) (s : List ℕ) (t : Tag) (n : ℕ)
+    → (t .case ≡ k → t .count ≡ items → (x : X) (m : ℕ) → F s n ≡ ok x m → P (make x) m) → Gives P (rest s t n) → Gives P (row k items F make rest s t n)
+unfolding row sized
+row-gives k items F make rest P s t n h r =
+    gives-pick P _ _ _ (λ q. gives-map P make _ (gives-pick _ _ _ _ (λ c. h (eqb-true _ _ q) (eqb-true _ _ c)) (λ _. gives-refused _ _ _))) (λ _. r)
+
 module _ {A : Type 0} (s : List ℕ) (t : Tag) (n : ℕ) where
   pub none-gives : (P : A → ℕ → Type 0) → Gives P (unknown s t n)
   unfolding unknown
@@ -90,13 +97,8 @@ module _ {A : Type 0} {enc : A → List ℕ} {Within : A → Type 0} where
     abbrev pub row-read : Cases A
     row-read = row k (suc (F .count)) (F .read) make (rest .read)
 
-    -- what holds of the fields, where the count is right, holds of the value
-    row-gives : (P : A → ℕ → Type 0) (s : List ℕ) (t : Tag) (n : ℕ) → (t .case ≡ k → t .count ≡ suc (F .count) → (x : X) (m : ℕ) → F .read s n ≡ ok x m → P (make x) m) → Gives P (rest .read s t n) → Gives P (row-read s t n)
-    unfolding row sized
-    row-gives P s t n h r = gives-pick P _ _ _ (λ q. gives-map P _ _ (gives-pick _ _ _ _ (λ c. h (eqb-true _ _ q) (eqb-true _ _ c)) (λ _. gives-refused _ _ _))) (λ _. r)
-
     pub row-sound : (s : List ℕ) → Bytes s → (at : ℕ) (t : Tag) (n : ℕ) → TagAt s at t n → Gives (Is Within enc s at) (row-read s t n)
-    row-sound s B at t n h = row-gives (Is Within enc s at) s t n (λ q c x m e.
+    row-sound s B at t n h = row-gives _ _ _ _ _ (Is Within enc s at) s t n (λ q c x m e.
         let i = F .laws .sound s B n (h .number .fits) x m e in
         let a : At s at (encCase (suc (F .count)) k (F .enc x)) m =
         at-join (at-join (subst (λ (z : ℕ). At s at (encHead 4 z) (t .place)) c (h .array)) (subst (λ (z : ℕ). At s (t .place) (encHead 0 z) n) q (h .number))) (i .there) in
@@ -106,7 +108,7 @@ module _ {A : Type 0} {enc : A → List ℕ} {Within : A → Type 0} where
         }) (rest .sound s B at t n h)
 
     pub row-items : (s : List ℕ) (t : Tag) (n : ℕ) → Gives (λ _ m. Filled s t n m) (row-read s t n)
-    row-items s t n = row-gives (λ _ m. Filled s t n m) s t n (λ q c x m e. record { fields = F .count; count = c; items = F .laws .items s n x m e }) (rest .items s t n)
+    row-items s t n = row-gives _ _ _ _ _ (λ _ m. Filled s t n m) s t n (λ q c x m e. record { fields = F .count; count = c; items = F .laws .items s n x m e }) (rest .items s t n)
 
     pub row-blames : (s : List ℕ) (t : Tag) (n : ℕ) → Blames Faults (row-read s t n)
     unfolding row sized

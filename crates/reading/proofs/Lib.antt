@@ -17,3 +17,4 @@ pub mod TransitionLaws
 pub mod FormulaLaws
 pub mod ModuleLaws
 pub mod Theorems
+pub mod Views

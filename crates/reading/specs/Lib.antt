@@ -16,3 +16,4 @@ pub mod Module
 pub mod Document
 pub mod Link
 pub mod Items
+pub mod Views
