@@ -40,42 +40,44 @@ module _ {A B : Type 0} (P : Fault → ℕ → Type 0) where
   blames-map g (ok a n) h = blames-ok P (g a) n
   blames-map g (refused f p) h = blames-refused P f p (h f p refl)
 
--- the faults of an item: 2 to 7
-pub data Inner : Fault → Type 0 where
-  torn : Inner Truncated
-  padded : Inner NonCanonical
-  misfiled : Inner Unexpected
-  outsize : Inner OutOfRange
-  smudged : Inner OutsideAlphabet
-  nested : Inner TooDeep
+-- the faults of an item: 2 to 6, and 7 at a place that Deep names
+pub data Inner (Deep : ℕ → Type 0) : Fault → ℕ → Type 0 where
+  torn : {p : ℕ} → Inner Deep Truncated p
+  padded : {p : ℕ} → Inner Deep NonCanonical p
+  misfiled : {p : ℕ} → Inner Deep Unexpected p
+  outsize : {p : ℕ} → Inner Deep OutOfRange p
+  smudged : {p : ℕ} → Inner Deep OutsideAlphabet p
+  nested : {p : ℕ} → Deep p → Inner Deep TooDeep p
 
-abbrev pub Faults : Fault → ℕ → Type 0
-Faults f p = Inner f
-
-abbrev out : {A : Type 0} {f : Fault} (p : ℕ) → Inner f → Blames {A = A} Faults (refused f p)
-out {A} {f} p h = blames-refused Faults f p h
+pub inner-more : {D E : ℕ → Type 0} → ((p : ℕ) → D p → E p) → {f : Fault} {p : ℕ} → Inner D f p → Inner E f p
+inner-more h torn = torn
+inner-more h padded = padded
+inner-more h misfiled = misfiled
+inner-more h outsize = outsize
+inner-more h smudged = smudged
+inner-more h (nested {p = p} d) = nested (h p d)
 
 -- heads have only 2, 3 and 4
-module _ (s : List ℕ) (at : ℕ) where
-  long-blames : (major : ℕ) (be : List ℕ → ℕ → ℕ) (width least : ℕ) → Blames Faults (longHead major be width least s at)
+module _ {D : ℕ → Type 0} (s : List ℕ) (at : ℕ) where
+  long-blames : (major : ℕ) (be : List ℕ → ℕ → ℕ) (width least : ℕ) → Blames (Inner D) (longHead major be width least s at)
   unfolding longHead settled
   long-blames major be width least =
-      blames-pick Faults _ _ _ (λ _. out at torn) λ _.
-      blames-pick Faults _ _ _ (λ _. out at padded) λ _. blames-ok Faults _ _
+      blames-pick (Inner D) _ _ _ (λ _. blames-refused (Inner D) _ _ torn) λ _.
+      blames-pick (Inner D) _ _ _ (λ _. blames-refused (Inner D) _ _ padded) λ _. blames-ok (Inner D) _ _
 
-  pub head-blames : Blames Faults (readHead s at)
+  pub head-blames : Blames (Inner D) (readHead s at)
   unfolding readHead headWith wideHead simple
   head-blames =
-      blames-pick Faults _ _ _ (λ _. out at torn) λ _.
-      blames-pick Faults _ _ _ (λ _. out at padded) λ _.
-      blames-pick Faults _ _ _ (λ _.
-      blames-pick Faults _ _ _ (λ _. out at misfiled) λ _.
-      blames-pick Faults _ _ _ (λ _. out at misfiled) λ _. blames-ok Faults _ _) λ _.
-      blames-pick Faults _ _ _ (λ _. blames-ok Faults _ _) λ _.
-      blames-pick Faults _ _ _ (λ _. long-blames _ _ _ _) λ _.
-      blames-pick Faults _ _ _ (λ _. long-blames _ _ _ _) λ _.
-      blames-pick Faults _ _ _ (λ _. long-blames _ _ _ _) λ _. long-blames _ _ _ _
+      blames-pick (Inner D) _ _ _ (λ _. blames-refused (Inner D) _ _ torn) λ _.
+      blames-pick (Inner D) _ _ _ (λ _. blames-refused (Inner D) _ _ padded) λ _.
+      blames-pick (Inner D) _ _ _ (λ _.
+      blames-pick (Inner D) _ _ _ (λ _. blames-refused (Inner D) _ _ misfiled) λ _.
+      blames-pick (Inner D) _ _ _ (λ _. blames-refused (Inner D) _ _ misfiled) λ _. blames-ok (Inner D) _ _) λ _.
+      blames-pick (Inner D) _ _ _ (λ _. blames-ok (Inner D) _ _) λ _.
+      blames-pick (Inner D) _ _ _ (λ _. long-blames _ _ _ _) λ _.
+      blames-pick (Inner D) _ _ _ (λ _. long-blames _ _ _ _) λ _.
+      blames-pick (Inner D) _ _ _ (λ _. long-blames _ _ _ _) λ _. long-blames _ _ _ _
 
-  pub kind-blames : (due : ℕ) → Blames Faults (readKind due s at)
+  pub kind-blames : (due : ℕ) → Blames (Inner D) (readKind due s at)
   unfolding readKind
-  kind-blames due = blames-bind Faults _ _ head-blames λ h n _. blames-pick Faults _ _ _ (λ _. blames-ok Faults _ _) (λ _. out at misfiled)
+  kind-blames due = blames-bind (Inner D) _ _ head-blames λ h n _. blames-pick (Inner D) _ _ _ (λ _. blames-ok (Inner D) _ _) (λ _. blames-refused (Inner D) _ _ misfiled)

@@ -21,24 +21,24 @@ use Rattle.reading.proofs.Rules.{by, no, pick-true, pick-false, bind-ok
 use Rattle.reading.proofs.Gives.{Gives, gives-ok, gives-refused, gives-pick, gives-bind, gives-map}
 use Rattle.reading.proofs.At.{At, at-join, at-split, at-nil, at-byte, at-first}
 use Rattle.reading.proofs.HeadSound.{Bytes}
-use Rattle.reading.proofs.Blames.{Blames, Faults, blames-ok, blames-pick, blames-bind, blames-map}
+use Rattle.reading.proofs.Blames.{Blames, Inner, blames-ok, blames-pick, blames-bind, blames-map}
 use Rattle.reading.proofs.Items.{items-join, array-item, plain-item}
 use Rattle.reading.specs.Items.{none as no-item}
-use Rattle.reading.proofs.Formats.{Is, Laws, Format, of}
+use Rattle.reading.proofs.Formats.{Is, Laws, Never, Format, of}
 use Rattle.reading.proofs.Leaves.{AtMost, kind-sound, fields-kind, fields-complete, fields-blames, count-kind, count-complete, count-blames}
 
 -- no item
-pub nothing-laws : Laws nothing (λ _. []) (λ _. Unit {0}) 0
+pub nothing-laws : Laws nothing (λ _. []) (λ _. Unit {0}) 0 Never
 unfolding nothing
 nothing-laws = record {
   sound = λ s B at h. gives-ok (Is (λ _. Unit {0}) (λ _. []) s at) tt at (record { within = tt; there = at-nil h });
   complete = λ s at x n w a. let e : at ≡ n = omega (arith, a .end) in ap (λ (z : ℕ). ok tt z) e;
   items = λ s at. gives-ok (λ _ n. Items s 0 at n) tt at no-item;
-  blames = λ s at. blames-ok Faults tt at;
+  blames = λ s at. blames-ok (Inner (Never s)) tt at;
 }
 
 -- one after the other
-module _ {A B : Type 0} (F : Format A) (G : Format B) where
+module _ {A B : Type 0} {D : List ℕ → ℕ → Type 0} (F : Format D A) (G : Format D B) where
   abbrev pub WithinBoth : A × B → Type 0
   WithinBoth p = F .Within (p .0) & G .Within (p .1)
 
@@ -51,7 +51,7 @@ module _ {A B : Type 0} (F : Format A) (G : Format B) where
       let k = at-split (F .enc (x .0)) (G .enc (x .1)) a in
       rw (F .laws .complete s at (x .0) _ (w .0) (k .0), bind-ok, G .laws .complete s _ (x .1) n (w .1) (k .1), map-ok)
 
-  pub both-laws : Laws (F .read then G .read) encBoth WithinBoth (F .count + G .count)
+  pub both-laws : Laws (F .read then G .read) encBoth WithinBoth (F .count + G .count) D
   unfolding _then_
   both-laws = record {
     sound = λ s B at h.
@@ -63,15 +63,15 @@ module _ {A B : Type 0} (F : Format A) (G : Format B) where
     items = λ s at.
         gives-bind _ _ _ λ a n e. gives-map (λ _ m. Items s (F .count + G .count) at m) _ _ λ b m q.
         items-join (F .laws .items s at a n e) (G .laws .items s n b m q);
-    blames = λ s at. blames-bind Faults _ _ (F .laws .blames s at) λ a n e. blames-map Faults _ _ (G .laws .blames s n);
+    blames = λ s at. blames-bind (Inner (D s)) _ _ (F .laws .blames s at) λ a n e. blames-map (Inner (D s)) _ _ (G .laws .blames s n);
   }
 
-  abbrev pub _also_ : Format (A × B)
+  abbrev pub _also_ : Format D (A × B)
   _also_ = of both-laws
 
 infixr 50 _also_
 -- a record: an array of its fields
-module _ {A B : Type 0} (F : Format A) (make : A → B) (parts : B → A) (back : (a : A) → parts (make a) ≡ a) (there : (b : B) → make (parts b) ≡ b) (small : F .count ≤ maxU64) where
+module _ {A B : Type 0} {D : List ℕ → ℕ → Type 0} (F : Format D A) (make : A → B) (parts : B → A) (back : (a : A) → parts (make a) ≡ a) (there : (b : B) → make (parts b) ≡ b) (small : F .count ≤ maxU64) where
   abbrev WithinParts : B → Type 0
   WithinParts b = F .Within (parts b)
 
@@ -84,7 +84,7 @@ module _ {A B : Type 0} (F : Format A) (make : A → B) (parts : B → A) (back 
       let k = at-split (encHead 4 (F .count)) (F .enc (parts x)) a in
       rw (fields-complete s at (F .count) _ small (k .0), bind-ok, F .laws .complete s _ (parts x) n w (k .1), map-ok, there x)
 
-  pub record-laws : Laws (recordOf (F .count) (F .read) make) encParts WithinParts 1
+  pub record-laws : Laws (recordOf (F .count) (F .read) make) encParts WithinParts 1 D
   unfolding recordOf
   record-laws = record {
     sound = λ s B at h.
@@ -99,11 +99,11 @@ module _ {A B : Type 0} (F : Format A) (make : A → B) (parts : B → A) (back 
     items = λ s at.
         gives-bind _ _ _ λ _ n e. gives-map (λ _ m. Items s 1 at m) _ _ λ a m q.
         array-item (fields-kind s at (F .count) tt n e) (F .laws .items s n a m q);
-    blames = λ s at. blames-bind Faults _ _ (fields-blames s at (F .count)) λ _ n e. blames-map Faults _ _ (F .laws .blames s n);
+    blames = λ s at. blames-bind (Inner (D s)) _ _ (fields-blames s at (F .count)) λ _ n e. blames-map (Inner (D s)) _ _ (F .laws .blames s n);
   }
 
 -- a list: an array of its entries
-module _ {A : Type 0} {read : Reader A} {enc : A → List ℕ} {Within : A → Type 0} (L : Laws read enc Within 1) where
+module _ {A : Type 0} {read : Reader A} {enc : A → List ℕ} {Within : A → Type 0} {D : List ℕ → ℕ → Type 0} (L : Laws read enc Within 1 D) where
   record Are (s : List ℕ) (k at : ℕ) (xs : List A) (n : ℕ) : Type 0 where
     pub many : length xs ≡ k
     pub each : All Within xs
@@ -133,10 +133,10 @@ module _ {A : Type 0} {read : Reader A} {enc : A → List ℕ} {Within : A → T
       let c : 1 + k ≡ suc k = omega arith in
       subst (λ (z : ℕ). Items s z at n) c (items-join (L .items s at a m q) (entries-items s k m xs n r))
 
-  entries-blames : (s : List ℕ) (k at : ℕ) → Blames Faults (entries k read s at)
+  entries-blames : (s : List ℕ) (k at : ℕ) → Blames (Inner (D s)) (entries k read s at)
   unfolding entries
-  entries-blames s zero at = blames-ok Faults _ _
-  entries-blames s (suc k) at = blames-bind Faults _ _ (L .blames s at) λ a m _. blames-map Faults _ _ (entries-blames s k m)
+  entries-blames s zero at = blames-ok (Inner (D s)) _ _
+  entries-blames s (suc k) at = blames-bind (Inner (D s)) _ _ (L .blames s at) λ a m _. blames-map (Inner (D s)) _ _ (entries-blames s k m)
 
   module _ (limit : ℕ) (small : limit ≤ maxU64) where
     list-complete : (s : List ℕ) (at : ℕ) (xs : List A) (n : ℕ) → WithinList limit Within xs → At s at (encList enc xs) n → listOf limit read s at ≡ ok xs n
@@ -145,7 +145,7 @@ module _ {A : Type 0} {read : Reader A} {enc : A → List ℕ} {Within : A → T
         let k = at-split (encHead 4 (length xs)) (encAll enc xs) a in
         rw (count-complete s at limit (length xs) _ (w .most) small (k .0), bind-ok, entries-complete s xs _ n (w .each) (k .1))
 
-    pub list-laws : Laws (listOf limit read) (encList enc) (WithinList limit Within) 1
+    pub list-laws : Laws (listOf limit read) (encList enc) (WithinList limit Within) 1 D
     unfolding listOf encList
     list-laws = record {
       sound = λ s B at h.
@@ -159,7 +159,7 @@ module _ {A : Type 0} {read : Reader A} {enc : A → List ℕ} {Within : A → T
           };
       complete = list-complete;
       items = λ s at. gives-bind _ _ _ λ c n q xs m r. array-item (count-kind s at limit c n q .0) (entries-items s c n xs m r);
-      blames = λ s at. blames-bind Faults _ _ (count-blames s at limit) λ c n _. entries-blames s c n;
+      blames = λ s at. blames-bind (Inner (D s)) _ _ (count-blames s at limit) λ c n _. entries-blames s c n;
     }
 
 -- null is no item of another kind
@@ -202,7 +202,7 @@ unfolding enumOf readTag Solid
 enum-solid cases s at q = rw (null-other s at q 4 (omega arith), bind-out, bind-out)
 
 -- an option: null, or the item
-module _ {A : Type 0} {read : Reader A} {enc : A → List ℕ} {Within : A → Type 0} (L : Laws read enc Within 1) (solid : Solid read) where
+module _ {A : Type 0} {read : Reader A} {enc : A → List ℕ} {Within : A → Type 0} {D : List ℕ → ℕ → Type 0} (L : Laws read enc Within 1 D) (solid : Solid read) where
   option-complete : (s : List ℕ) (at : ℕ) (x : Option A) (n : ℕ) → WithinOption Within x → At s at (encOption enc x) n → optional read s at ≡ ok x n
   unfolding optional encOption WithinOption put1 Solid
   option-complete s at none n w a = rw (at-first a .1, pick-true, a .end)
@@ -211,7 +211,7 @@ module _ {A : Type 0} {read : Reader A} {enc : A → List ℕ} {Within : A → T
       let f : getD s at 0 ≡ 246 → ⊥ = λ q. let r = solid s at q in no (cc) in
       rw (ne-eqb (getD s at 0) 246 f, pick-false, e, map-ok)
 
-  pub option-laws : Laws (optional read) (encOption enc) (WithinOption Within) 1
+  pub option-laws : Laws (optional read) (encOption enc) (WithinOption Within) 1 D
   unfolding optional encOption WithinOption put1
   option-laws = record {
     sound = λ s B at h.
@@ -226,5 +226,5 @@ module _ {A : Type 0} {read : Reader A} {enc : A → List ℕ} {Within : A → T
     items = λ s at.
         gives-pick _ _ _ _ (λ q. gives-ok (λ _ n. Items s 1 at n) none (at + 1) (plain-item 7 refl refl (null-kind s at (eqb-true _ _ q))))
         (λ _. gives-map (λ _ n. Items s 1 at n) _ _ λ x n e. L .items s at x n e);
-    blames = λ s at. blames-pick Faults _ _ _ (λ _. blames-ok Faults _ _) (λ _. blames-map Faults _ _ (L .blames s at));
+    blames = λ s at. blames-pick (Inner (D s)) _ _ _ (λ _. blames-ok (Inner (D s)) _ _) (λ _. blames-map (Inner (D s)) _ _ (L .blames s at));
   }

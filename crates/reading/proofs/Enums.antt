@@ -17,7 +17,7 @@ use Rattle.reading.proofs.Rules.{pick-true, pick-false, bind-ok, map-ok
 use Rattle.reading.proofs.Gives.{Gives, gives-ok, gives-refused, gives-pick, gives-bind, gives-map}
 use Rattle.reading.proofs.At.{At, at-join, at-split}
 use Rattle.reading.proofs.HeadSound.{Bytes}
-use Rattle.reading.proofs.Blames.{Blames, Faults, blames-ok, blames-refused, blames-pick, blames-bind, blames-map, misfiled}
+use Rattle.reading.proofs.Blames.{Blames, Inner, blames-ok, blames-refused, blames-pick, blames-bind, blames-map, misfiled}
 use Rattle.reading.proofs.Items.{items-join, array-item, plain-item}
 use Rattle.reading.proofs.Formats.{Is, Laws, Format}
 use Rattle.reading.proofs.Leaves.{kind-sound, kind-complete, tag-kinds, tag-blames}
@@ -52,7 +52,7 @@ pub record Said : Type 1 where
   pub bytes : List ℕ
   pub limits : Type 0
 
-module _ {A : Type 0} (enc : A → List ℕ) (Within : A → Type 0) where
+module _ {A : Type 0} (enc : A → List ℕ) (Within : A → Type 0) (D : List ℕ → ℕ → Type 0) where
   -- some cases of a data enum; Has k a: the value a is of the case k, which is one of them
   pub record Rows : Type 1 where
     pub read : Cases A
@@ -60,7 +60,7 @@ module _ {A : Type 0} (enc : A → List ℕ) (Within : A → Type 0) where
     pub sound : (s : List ℕ) → Bytes s → (at : ℕ) (t : Tag) (n : ℕ) → TagAt s at t n → Gives (Is Within enc s at) (read s t n)
     pub complete : (case : ℕ) (a : A) → Has case a → Within a → Shown enc read case a
     pub items : (s : List ℕ) (t : Tag) (n : ℕ) → Gives (λ _ m. Filled s t n m) (read s t n)
-    pub blames : (s : List ℕ) (t : Tag) (n : ℕ) → Blames Faults (read s t n)
+    pub blames : (s : List ℕ) (t : Tag) (n : ℕ) → Blames (Inner (D s)) (read s t n)
 
 -- what holds of the fields, where case and count are right, holds of the value
 pub row-gives : {X A : Type 0} (k items : ℕ) (F : Reader X) (make : X → A) (rest : Cases A) (P : A → ℕ → Type 0) (s : List ℕ) (t : Tag) (n : ℕ)
@@ -74,26 +74,26 @@ module _ {A : Type 0} (s : List ℕ) (t : Tag) (n : ℕ) where
   unfolding unknown
   none-gives P = gives-refused P _ _
 
-  pub none-blames : Blames {A = A} Faults (unknown s t n)
+  pub none-blames : {D : ℕ → Type 0} → Blames {A = A} (Inner D) (unknown s t n)
   unfolding unknown
-  none-blames = blames-refused Faults _ _ misfiled
+  none-blames {D} = blames-refused (Inner D) _ _ misfiled
 
-module _ {A : Type 0} {enc : A → List ℕ} {Within : A → Type 0} where
+module _ {A : Type 0} {enc : A → List ℕ} {Within : A → Type 0} {D : List ℕ → ℕ → Type 0} where
   -- no case
-  abbrev pub none : Rows enc Within
+  abbrev pub none : Rows enc Within D
   none = record {
     read = unknown;
     Has = λ _ _. ⊥;
     sound = λ s B at t n h. none-gives s t n _;
     complete = λ case a h w. absurd h;
     items = λ s t n. none-gives s t n _;
-    blames = none-blames;
+    blames = λ s t n. none-blames s t n;
   }
 
   -- the case k with its fields, then the others
-  module _ {X : Type 0} (k : ℕ) (F : Format X) (make : X → A)
+  module _ {X : Type 0} (k : ℕ) (F : Format D X) (make : X → A)
       (says : (x : X) → _≡_ {A = Said} (record { bytes = enc (make x); limits = Within (make x) }) (record { bytes = encCase (suc (F .count)) k (F .enc x); limits = F .Within x }))
-      (small : T (ltb (F .count + k) 99)) (rest : Rows enc Within) where
+      (small : T (ltb (F .count + k) 99)) (rest : Rows enc Within D) where
     abbrev pub row-read : Cases A
     row-read = row k (suc (F .count)) (F .read) make (rest .read)
 
@@ -110,10 +110,10 @@ module _ {A : Type 0} {enc : A → List ℕ} {Within : A → Type 0} where
     pub row-items : (s : List ℕ) (t : Tag) (n : ℕ) → Gives (λ _ m. Filled s t n m) (row-read s t n)
     row-items s t n = row-gives _ _ _ _ _ (λ _ m. Filled s t n m) s t n (λ q c x m e. record { fields = F .count; count = c; items = F .laws .items s n x m e }) (rest .items s t n)
 
-    pub row-blames : (s : List ℕ) (t : Tag) (n : ℕ) → Blames Faults (row-read s t n)
+    pub row-blames : (s : List ℕ) (t : Tag) (n : ℕ) → Blames (Inner (D s)) (row-read s t n)
     unfolding row sized
     row-blames s t n =
-        blames-pick Faults _ _ _ (λ q. blames-map Faults _ _ (blames-pick Faults _ _ _ (λ c. F .laws .blames s n) (λ _. blames-refused Faults _ _ misfiled)))
+        blames-pick (Inner (D s)) _ _ _ (λ q. blames-map (Inner (D s)) _ _ (blames-pick (Inner (D s)) _ _ _ (λ c. F .laws .blames s n) (λ _. blames-refused (Inner (D s)) _ _ misfiled)))
         (λ _. rest .blames s t n)
 
     abbrev pub Here : A → Type 0
@@ -144,7 +144,7 @@ module _ {A : Type 0} {enc : A → List ℕ} {Within : A → Type 0} where
           reads = λ s at place n m h. rw (q, pick-false, r .reads s at place n m h);
         }
 
-    abbrev pub case : Rows enc Within
+    abbrev pub case : Rows enc Within D
     case = record {
       read = row-read;
       Has = λ case a. either (eqb case k) (Here a) (rest .Has case a);
@@ -155,7 +155,7 @@ module _ {A : Type 0} {enc : A → List ℕ} {Within : A → Type 0} where
     }
 
   -- a data enum: its cases, and of which case each value is
-  module _ (C : Rows enc Within) (is : (a : A) → (k : ℕ) × C .Has k a) where
+  module _ (C : Rows enc Within D) (is : (a : A) → (k : ℕ) × C .Has k a) where
     enum-complete : (s : List ℕ) (at : ℕ) (x : A) (n : ℕ) → Within x → At s at (enc x) n → enumOf (C .read) s at ≡ ok x n
     unfolding enumOf readTag
     enum-complete s at x n w a =
@@ -174,7 +174,7 @@ module _ {A : Type 0} {enc : A → List ℕ} {Within : A → Type 0} where
           o .reads s at _ _ n (k .1),
         )
 
-    pub enum-laws : Laws (enumOf (C .read)) enc Within 1
+    pub enum-laws : Laws (enumOf (C .read)) enc Within 1 D
     unfolding enumOf
     enum-laws = record {
       sound = λ s B at _. gives-bind _ _ _ λ t n e.
@@ -186,5 +186,5 @@ module _ {A : Type 0} {enc : A → List ℕ} {Within : A → Type 0} where
           let f = C .items s t n x m q in
           let c : 1 + f .fields ≡ t .count = omega (arith, f .count) in
           array-item (h .array) (subst (λ (z : ℕ). Items s z (t .place) m) c (items-join (plain-item 0 refl refl (h .number)) (f .items)));
-      blames = λ s at. blames-bind Faults _ _ (tag-blames s at) λ t n _. C .blames s t n;
+      blames = λ s at. blames-bind (Inner (D s)) _ _ (tag-blames s at) λ t n _. C .blames s t n;
     }

@@ -1,20 +1,27 @@
 -- The laws of formulas, from those of their fields.
 use Prim.Native.Nat.{ℕ, zero, suc}
 use mathlib.Core.Path.{refl}
+use mathlib.Core.List.{List}
+use mathlib.Core.Logic.{_⊎_, inl, inr}
 use Rattle.reading.specs.Combine.{pair}
+use Rattle.reading.specs.Expr.{readExpr}
 use Rattle.reading.specs.Formula.{Formula, inputIs, outputHas, expr, not, and, or, implies, next, always, boundedAlways, boundedEventually, eventually, until, formulaCases, readFormula, encFormula, WithinFormula}
-use Rattle.reading.proofs.Formats.{Laws, Format, of, refusing}
+use Rattle.reading.proofs.Formats.{Laws, From, Format, of, deeper, own, flat, refusing}
 use Rattle.reading.proofs.Combined.{_also_}
 use Rattle.reading.proofs.Enums.{either, Rows, none, case, enum-laws}
 use Rattle.reading.proofs.ExprLaws.{u64, expr-laws}
 use Rattle.reading.proofs.PatternLaws.{pattern-laws}
 
-abbrev formulas : (d : ℕ) → Laws (readFormula d) encFormula (WithinFormula d) 1 → Rows encFormula (WithinFormula (suc d))
+-- where an expression or a formula one level deeper starts
+abbrev Beneath : ℕ → List ℕ → ℕ → Type 0
+Beneath d s p = From (readExpr d) s p ⊎ From (readFormula d) s p
+
+abbrev formulas : (d : ℕ) → Laws (readFormula d) encFormula (WithinFormula d) 1 (Beneath d) → Rows encFormula (WithinFormula (suc d)) (Beneath d)
 unfolding encFormula WithinFormula
 formulas d p =
-    case 0 (of pattern-laws) inputIs (λ _. refl) tt
-    (case 1 (of pattern-laws) outputHas (λ _. refl) tt
-    (case 2 (of (expr-laws d)) expr (λ _. refl) tt
+    case 0 (flat pattern-laws) inputIs (λ _. refl) tt
+    (case 1 (flat pattern-laws) outputHas (λ _. refl) tt
+    (case 2 (of (deeper (λ s p. inl) (expr-laws d))) expr (λ _. refl) tt
     (case 3 (of p) not (λ _. refl) tt
     (case 4 (of p also of p) (pair and) (λ _. refl) tt
     (case 5 (of p also of p) (pair or) (λ _. refl) tt
@@ -27,7 +34,7 @@ formulas d p =
     (case 12 (of p also of p) (pair until) (λ _. refl) tt
     none))))))))))))
 
-formula-is : (d : ℕ) (p : Laws (readFormula d) encFormula (WithinFormula d) 1) (x : Formula) → (k : ℕ) × formulas d p .Has k x
+formula-is : (d : ℕ) (p : Laws (readFormula d) encFormula (WithinFormula d) 1 (Beneath d)) (x : Formula) → (k : ℕ) × formulas d p .Has k x
 unfolding either formulas
 formula-is d p (inputIs x) = (0, (x, refl))
 formula-is d p (outputHas x) = (1, (x, refl))
@@ -43,7 +50,7 @@ formula-is d p (boundedEventually b f) = (10, ((b, f), refl))
 formula-is d p (eventually f) = (11, (f, refl))
 formula-is d p (until f g) = (12, ((f, g), refl))
 
-pub formula-laws : (d : ℕ) → Laws (readFormula d) encFormula (WithinFormula d) 1
+pub formula-laws : (d : ℕ) → Laws (readFormula d) encFormula (WithinFormula d) 1 (From (readFormula d))
 unfolding readFormula formulaCases WithinFormula formulas
 formula-laws zero = refusing encFormula
-formula-laws (suc d) = enum-laws (formulas d (formula-laws d)) (formula-is d (formula-laws d))
+formula-laws (suc d) = let p = deeper (λ s p. inr) (formula-laws d) in own (enum-laws (formulas d p) (formula-is d p))

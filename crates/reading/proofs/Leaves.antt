@@ -20,9 +20,9 @@ use Rattle.reading.proofs.Gives.{Gives, gives-ok, gives-refused, gives-
 use Rattle.reading.proofs.At.{At, at-join, at-split}
 use Rattle.reading.proofs.HeadSound.{Bytes, head-sound}
 use Rattle.reading.proofs.HeadComplete.{head-complete}
-use Rattle.reading.proofs.Blames.{Blames, Faults, blames-ok, blames-refused, blames-pick, blames-bind, kind-blames, torn, misfiled, outsize, smudged}
+use Rattle.reading.proofs.Blames.{Blames, Inner, blames-ok, blames-refused, blames-pick, blames-bind, kind-blames, torn, misfiled, outsize, smudged}
 use Rattle.reading.proofs.Items.{plain-item, text-item}
-use Rattle.reading.proofs.Formats.{Is, Laws}
+use Rattle.reading.proofs.Formats.{Is, Laws, Never}
 
 abbrev pub Below : ℕ → ℕ → Type 0
 Below k v = v < k
@@ -89,29 +89,6 @@ module _ (s : List ℕ) (at : ℕ) where
       gives-pick _ _ _ _ (λ _. gives-refused _ _ _) λ _.
       gives-bind _ _ _ λ case n r. gives-ok Tags _ n (record { array = q; number = r })
 
-  pub number-blames : (limit : ℕ) → Blames Faults (readNumber limit s at)
-  unfolding readNumber
-  number-blames limit = blames-bind Faults _ _ (kind-blames s at 0) λ v n e. blames-pick Faults _ _ _ (λ _. blames-refused Faults _ _ outsize) (λ _. blames-ok Faults _ _)
-
-  pub count-blames : (limit : ℕ) → Blames Faults (readCount limit s at)
-  unfolding readCount
-  count-blames limit = blames-bind Faults _ _ (kind-blames s at 4) λ v n e. blames-pick Faults _ _ _ (λ _. blames-refused Faults _ _ outsize) (λ _. blames-ok Faults _ _)
-
-  pub case-blames : (cases : ℕ) → Blames Faults (readCase cases s at)
-  unfolding readCase
-  case-blames cases = blames-bind Faults _ _ (kind-blames s at 0) λ v n e. blames-pick Faults _ _ _ (λ _. blames-ok Faults _ _) (λ _. blames-refused Faults _ _ misfiled)
-
-  pub fields-blames : (k : ℕ) → Blames Faults (readFields k s at)
-  unfolding readFields
-  fields-blames k = blames-bind Faults _ _ (kind-blames s at 4) λ v n e. blames-pick Faults _ _ _ (λ _. blames-ok Faults _ _) (λ _. blames-refused Faults _ _ misfiled)
-
-  pub tag-blames : Blames Faults (readTag s at)
-  unfolding readTag
-  tag-blames =
-      blames-bind Faults _ _ (kind-blames s at 4) λ count p q.
-      blames-pick Faults _ _ _ (λ _. blames-refused Faults _ _ misfiled) λ _.
-      blames-bind Faults _ _ (kind-blames s p 0) λ case n r. blames-ok Faults _ _
-
   pub fields-complete : (k n : ℕ) → k ≤ maxU64 → At s at (encHead 4 k) n → readFields k s at ≡ ok tt n
   unfolding readFields
   fields-complete k n h a = rw (kind-complete s 4 at k n (omega arith) h a, bind-ok, eq-eqb k k refl, pick-true)
@@ -120,11 +97,36 @@ module _ (s : List ℕ) (at : ℕ) where
   unfolding readCount
   count-complete limit v n h k a = rw (kind-complete s 4 at v n (omega arith) (omega arith) a, bind-ok, le-ltb limit v h, pick-false)
 
+-- what is refused
+module _ {D : ℕ → Type 0} (s : List ℕ) (at : ℕ) where
+  pub number-blames : (limit : ℕ) → Blames (Inner D) (readNumber limit s at)
+  unfolding readNumber
+  number-blames limit = blames-bind (Inner D) _ _ (kind-blames s at 0) λ v n e. blames-pick (Inner D) _ _ _ (λ _. blames-refused (Inner D) _ _ outsize) (λ _. blames-ok (Inner D) _ _)
+
+  pub count-blames : (limit : ℕ) → Blames (Inner D) (readCount limit s at)
+  unfolding readCount
+  count-blames limit = blames-bind (Inner D) _ _ (kind-blames s at 4) λ v n e. blames-pick (Inner D) _ _ _ (λ _. blames-refused (Inner D) _ _ outsize) (λ _. blames-ok (Inner D) _ _)
+
+  pub case-blames : (cases : ℕ) → Blames (Inner D) (readCase cases s at)
+  unfolding readCase
+  case-blames cases = blames-bind (Inner D) _ _ (kind-blames s at 0) λ v n e. blames-pick (Inner D) _ _ _ (λ _. blames-ok (Inner D) _ _) (λ _. blames-refused (Inner D) _ _ misfiled)
+
+  pub fields-blames : (k : ℕ) → Blames (Inner D) (readFields k s at)
+  unfolding readFields
+  fields-blames k = blames-bind (Inner D) _ _ (kind-blames s at 4) λ v n e. blames-pick (Inner D) _ _ _ (λ _. blames-ok (Inner D) _ _) (λ _. blames-refused (Inner D) _ _ misfiled)
+
+  pub tag-blames : Blames (Inner D) (readTag s at)
+  unfolding readTag
+  tag-blames =
+      blames-bind (Inner D) _ _ (kind-blames s at 4) λ count p q.
+      blames-pick (Inner D) _ _ _ (λ _. blames-refused (Inner D) _ _ misfiled) λ _.
+      blames-bind (Inner D) _ _ (kind-blames s p 0) λ case n r. blames-ok (Inner D) _ _
+
 number-complete : (limit : ℕ) → limit ≤ maxU64 → (s : List ℕ) (at v n : ℕ) → v ≤ limit → At s at (encHead 0 v) n → readNumber limit s at ≡ ok v n
 unfolding readNumber
 number-complete limit k s at v n h a = rw (kind-complete s 0 at v n (omega arith) (omega arith) a, bind-ok, le-ltb limit v h, pick-false)
 
-pub number-laws : (limit : ℕ) → limit ≤ maxU64 → Laws (readNumber limit) (encHead 0) (AtMost limit) 1
+pub number-laws : (limit : ℕ) → limit ≤ maxU64 → Laws (readNumber limit) (encHead 0) (AtMost limit) 1 Never
 number-laws limit h = record {
   sound = λ s B at _ v n e. let k = number-kind s at limit v n e in record { within = k .1; there = kind-sound s B 0 at v n (k .0) .there };
   complete = number-complete limit h;
@@ -136,7 +138,7 @@ case-complete : (cases : ℕ) → cases ≤ maxU64 → (s : List ℕ) (at v n : 
 unfolding readCase
 case-complete cases k s at v n h a = rw (kind-complete s 0 at v n (omega arith) (omega arith) a, bind-ok, lt-ltb v cases h, pick-true)
 
-pub case-laws : (cases : ℕ) → cases ≤ maxU64 → Laws (readCase cases) (encHead 0) (Below cases) 1
+pub case-laws : (cases : ℕ) → cases ≤ maxU64 → Laws (readCase cases) (encHead 0) (Below cases) 1 Never
 case-laws cases h = record {
   sound = λ s B at _ v n e. let k = case-kind s at cases v n e in record { within = k .1; there = kind-sound s B 0 at v n (k .0) .there };
   complete = case-complete cases h;
@@ -158,21 +160,21 @@ unfolding readBool encBool
 bool-complete s at false n w a = rw (simple-complete s at 20 n (omega arith) (omega arith) a, bind-ok, pick-true)
 bool-complete s at true n w a = rw (simple-complete s at 21 n (omega arith) (omega arith) a, bind-ok, pick-false, pick-true)
 
-bool-blames : (s : List ℕ) (at : ℕ) → Blames Faults (readBool s at)
+bool-blames : {D : ℕ → Type 0} (s : List ℕ) (at : ℕ) → Blames (Inner D) (readBool s at)
 unfolding readBool
-bool-blames s at =
-    blames-bind Faults _ _ (kind-blames s at 7) λ v n e.
-    blames-pick Faults _ _ _ (λ _. blames-ok Faults _ _) λ _.
-    blames-pick Faults _ _ _ (λ _. blames-ok Faults _ _) λ _. blames-refused Faults _ _ misfiled
+bool-blames {D} s at =
+    blames-bind (Inner D) _ _ (kind-blames s at 7) λ v n e.
+    blames-pick (Inner D) _ _ _ (λ _. blames-ok (Inner D) _ _) λ _.
+    blames-pick (Inner D) _ _ _ (λ _. blames-ok (Inner D) _ _) λ _. blames-refused (Inner D) _ _ misfiled
 
-pub bool-laws : Laws readBool encBool (λ _. Unit {0}) 1
+pub bool-laws : Laws readBool encBool (λ _. Unit {0}) 1 Never
 bool-laws = record {
   sound = λ s B at _ b n e.
       let k = bool-kind s at b n e in
       record { within = tt; there = subst (λ (z : List ℕ). At s at z n) (k .2) (kind-sound s B 7 at (k .0) n (k .1) .there) };
   complete = bool-complete;
   items = λ s at b n e. plain-item 7 refl refl (bool-kind s at b n e .1);
-  blames = bool-blames;
+  blames = λ s at. bool-blames s at;
 }
 
 -- a string: its head, and its bytes after it
@@ -229,16 +231,16 @@ module _ (least : ℕ) (alphabet : ℕ → Bool) where
   text-items : (s : List ℕ) (at : ℕ) → Gives (λ _ n. Items s 1 at n) (readText least alphabet s at)
   text-items s at w n e = let k = text-at s at w n e in subst (λ (z : ℕ). Items s 1 at z) (sym (k .there .end)) (text-item (k .head))
 
-  text-blames : (s : List ℕ) (at : ℕ) → Blames Faults (readText least alphabet s at)
+  text-blames : {D : ℕ → Type 0} (s : List ℕ) (at : ℕ) → Blames (Inner D) (readText least alphabet s at)
   unfolding readText textBytes
-  text-blames s at =
-      blames-bind Faults _ _ (kind-blames s at 3) λ len n e.
-      blames-pick Faults _ _ _ (λ _. blames-refused Faults _ _ outsize) λ _.
-      blames-pick Faults _ _ _ (λ _. blames-refused Faults _ _ outsize) λ _.
-      blames-pick Faults _ _ _ (λ _. blames-refused Faults _ _ torn) λ _.
-      blames-pick Faults _ _ _ (λ _. blames-ok Faults _ _) λ _. blames-refused Faults _ _ smudged
+  text-blames {D} s at =
+      blames-bind (Inner D) _ _ (kind-blames s at 3) λ len n e.
+      blames-pick (Inner D) _ _ _ (λ _. blames-refused (Inner D) _ _ outsize) λ _.
+      blames-pick (Inner D) _ _ _ (λ _. blames-refused (Inner D) _ _ outsize) λ _.
+      blames-pick (Inner D) _ _ _ (λ _. blames-refused (Inner D) _ _ torn) λ _.
+      blames-pick (Inner D) _ _ _ (λ _. blames-ok (Inner D) _ _) λ _. blames-refused (Inner D) _ _ smudged
 
-  pub text-laws : Laws (readText least alphabet) encText (WithinText least alphabet) 1
+  pub text-laws : Laws (readText least alphabet) encText (WithinText least alphabet) 1 Never
   unfolding encText
   text-laws = record {
     sound = λ s B at _ w n e.
@@ -246,5 +248,5 @@ module _ (least : ℕ) (alphabet : ℕ → Bool) where
         record { within = k .within; there = at-join (kind-sound s B 3 at (length w) (k .from) (k .head) .there) (k .there) };
     complete = text-complete;
     items = text-items;
-    blames = text-blames;
+    blames = λ s at. text-blames s at;
   }

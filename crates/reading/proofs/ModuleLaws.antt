@@ -13,12 +13,14 @@ use Rattle.reading.specs.declared.fault.Fault.{Fault}
 use Rattle.reading.specs.declared.fault.Fault.the-variants.{UnknownVersion}
 use Rattle.reading.proofs.Rules.{pick-false, bind-ok, map-ok}
 use Rattle.reading.proofs.Gives.{Gives, gives-ok, gives-refused, gives-pick, gives-bind, gives-map}
-use Rattle.reading.proofs.Blames.{Blames, Faults, Inner, blames-ok, blames-refused, blames-pick, blames-bind, blames-map, kind-blames}
+use Rattle.reading.proofs.Blames.{Blames, Inner, blames-ok, blames-refused, blames-pick, blames-bind, blames-map, kind-blames}
 use Rattle.reading.proofs.At.{At}
 use Rattle.reading.proofs.HeadSound.{Bytes}
 use Rattle.reading.specs.Limits.{maxList, maxDepth, maxModules, maxVersion}
+use Rattle.reading.specs.Expr.{readExpr}
+use Rattle.reading.specs.Formula.{readFormula}
 use Rattle.reading.specs.Module.{Property, Module, Ir, readProperty, readModule, readIr, encProperty, encModule, encIr, WithinProperty, WithinModule, WithinIr}
-use Rattle.reading.proofs.Formats.{Is, Laws, Format, of, by-bytes, item-sound}
+use Rattle.reading.proofs.Formats.{Is, Laws, From, Format, of, deeper, flat, by-bytes, item-sound}
 use Rattle.reading.proofs.Leaves.{number-laws, fields-blames}
 use Rattle.reading.proofs.Combined.{_also_, record-laws, list-laws, option-laws}
 use Rattle.reading.proofs.ExprLaws.{name-laws, name-solid, version-laws, version-solid}
@@ -26,26 +28,30 @@ use Rattle.reading.proofs.DeclLaws.{enum-decl-laws, constructor-group-l
 use Rattle.reading.proofs.TransitionLaws.{on-error-laws, on-error-solid, transition-laws}
 use Rattle.reading.proofs.FormulaLaws.{formula-laws}
 
-pub property-laws : Laws readProperty encProperty WithinProperty 1
+pub property-laws : Laws readProperty encProperty WithinProperty 1 (From (readFormula maxDepth))
 unfolding readProperty encProperty WithinProperty
-property-laws = record-laws (of name-laws also of (formula-laws maxDepth)) _ (λ x. (x .name, x .formula)) (λ _. refl) (λ _. refl) (omega arith)
+property-laws = record-laws (flat name-laws also of (formula-laws maxDepth)) _ (λ x. (x .name, x .formula)) (λ _. refl) (λ _. refl) (omega arith)
 
-pub module-laws : Laws readModule encModule WithinModule 1
+-- where a top expression or formula is too deep
+abbrev pub Nested : List ℕ → ℕ → Type 0
+Nested s p = From (readExpr maxDepth) s p ⊎ From (readFormula maxDepth) s p
+
+pub module-laws : Laws readModule encModule WithinModule 1 Nested
 unfolding readModule encModule WithinModule
 module-laws =
     by-bytes (λ _. simp append-assoc)
     (record-laws
-    (of name-laws
-    also of (option-laws version-laws version-solid)
-    also of (option-laws on-error-laws on-error-solid)
-    also of (list-laws enum-decl-laws maxList (omega arith))
-    also of (option-laws name-laws name-solid)
-    also of (list-laws constructor-group-laws maxList (omega arith))
-    also of (list-laws constructor-group-laws maxList (omega arith))
-    also of (list-laws var-decl-laws maxList (omega arith))
-    also of (list-laws transition-laws maxList (omega arith))
-    also of (list-laws property-laws maxList (omega arith))
-    also of (list-laws property-laws maxList (omega arith)))
+    (flat name-laws
+    also flat (option-laws version-laws version-solid)
+    also of (deeper (λ s p. inl) (option-laws on-error-laws on-error-solid))
+    also flat (list-laws enum-decl-laws maxList (omega arith))
+    also flat (option-laws name-laws name-solid)
+    also flat (list-laws constructor-group-laws maxList (omega arith))
+    also flat (list-laws constructor-group-laws maxList (omega arith))
+    also of (deeper (λ s p. inl) (list-laws var-decl-laws maxList (omega arith)))
+    also of (deeper (λ s p. inl) (list-laws transition-laws maxList (omega arith)))
+    also of (deeper (λ s p. inr) (list-laws property-laws maxList (omega arith)))
+    also of (deeper (λ s p. inr) (list-laws property-laws maxList (omega arith))))
     _
     (λ x. (x .name, (x .version, (x .on-error, (x .enums, (x .initial-state, (x .events, (x .outputs, (x .vars, (x .transitions, (x .properties, x .assumptions)))))))))))
     (λ _. refl) (λ _. refl) (omega arith))
@@ -78,10 +84,10 @@ number-agrees s at =
 abbrev plainIr : Reader Ir
 plainIr = recordOf 2 (readNumber maxVersion then listOf maxModules readModule) λ p. record { ir-version = p .0; modules = p .1 }
 
-plain-laws : Laws plainIr encIr WithinIr 1
+plain-laws : Laws plainIr encIr WithinIr 1 Nested
 unfolding encIr WithinIr
 plain-laws =
-    record-laws (of (number-laws maxVersion (omega arith)) also of (list-laws module-laws maxModules (omega arith))) _ (λ x. (x .ir-version, x .modules)) (λ _. refl) (λ _. refl) (omega arith)
+    record-laws (flat (number-laws maxVersion (omega arith)) also of (list-laws module-laws maxModules (omega arith))) _ (λ x. (x .ir-version, x .modules)) (λ _. refl) (λ _. refl) (omega arith)
 
 ir-agrees : Agree readIr plainIr
 unfolding readIr
@@ -109,10 +115,10 @@ pub record Unborn (s : List ℕ) (at p : ℕ) : Type 0 where
   pub newer : maxVersion < version
 
 -- a fault of an item, or 9
-pub ir-blames : (s : List ℕ) (at : ℕ) → Blames (λ f p. Inner f ⊎ ((f ≡ UnknownVersion) × Unborn s at p)) (readIr s at)
+pub ir-blames : (s : List ℕ) (at : ℕ) → Blames (λ f p. Inner (Nested s) f p ⊎ ((f ≡ UnknownVersion) × Unborn s at p)) (readIr s at)
 unfolding readIr recordOf _then_ readIrVersion
 ir-blames s at =
-    let Q : Fault → ℕ → Type 0 = λ f p. Inner f ⊎ ((f ≡ UnknownVersion) × Unborn s at p) in
+    let Q : Fault → ℕ → Type 0 = λ f p. Inner (Nested s) f p ⊎ ((f ≡ UnknownVersion) × Unborn s at p) in
     blames-bind Q _ _ (λ f p e. inl (fields-blames s at 2 f p e)) λ u n o.
     blames-map Q _ _
     (blames-bind Q _ _

@@ -7,13 +7,13 @@ use Rattle.reading.specs.Combine.{pair}
 use Rattle.reading.specs.Pattern.{PatternExpr, wildcard, bind, int, bool, enumVariant, PatternField, PatternVariant, unit, struct, Pattern}
 use Rattle.reading.specs.Pattern.{patternExprCases, readPatternExpr, readPatternField, patternVariantCases, readPatternVariant, readPattern}
 use Rattle.reading.specs.Pattern.{encPatternExpr, encPatternField, encPatternVariant, encPattern, WithinPatternExpr, WithinPatternField, WithinPatternVariant, WithinPattern}
-use Rattle.reading.proofs.Formats.{Laws, Format, of}
+use Rattle.reading.proofs.Formats.{Laws, Never, Format, of}
 use Rattle.reading.proofs.Leaves.{bool-laws}
 use Rattle.reading.proofs.Combined.{nothing-laws, _also_, record-laws, list-laws, option-laws, Solid, enum-solid}
 use Rattle.reading.proofs.Enums.{either, Rows, none, case, enum-laws}
 use Rattle.reading.proofs.ExprLaws.{u64, name-laws, name-solid, path-laws}
 
-abbrev pattern-exprs : Rows encPatternExpr WithinPatternExpr
+abbrev pattern-exprs : Rows encPatternExpr WithinPatternExpr Never
 unfolding encPatternExpr WithinPatternExpr
 pattern-exprs =
     case 0 (of nothing-laws) (λ _. wildcard) (λ _. refl) tt
@@ -31,16 +31,16 @@ pattern-expr-is (int v) = (2, (v, refl))
 pattern-expr-is (bool b) = (3, (b, refl))
 pattern-expr-is (enumVariant p) = (4, (p, refl))
 
-pub pattern-expr-laws : Laws readPatternExpr encPatternExpr WithinPatternExpr 1
+pub pattern-expr-laws : Laws readPatternExpr encPatternExpr WithinPatternExpr 1 Never
 unfolding readPatternExpr patternExprCases pattern-exprs
 pattern-expr-laws = enum-laws pattern-exprs pattern-expr-is
 
-pub pattern-field-laws : Laws readPatternField encPatternField WithinPatternField 1
+pub pattern-field-laws : Laws readPatternField encPatternField WithinPatternField 1 Never
 unfolding readPatternField encPatternField WithinPatternField
 pattern-field-laws =
     record-laws (of (option-laws name-laws name-solid) also of pattern-expr-laws) _ (λ x. (x .name, x .pattern)) (λ _. refl) (λ _. refl) (omega arith)
 
-abbrev pattern-variants : Rows encPatternVariant WithinPatternVariant
+abbrev pattern-variants : Rows encPatternVariant WithinPatternVariant Never
 unfolding encPatternVariant WithinPatternVariant
 pattern-variants =
     case 0 (of name-laws) unit (λ _. refl) tt
@@ -52,7 +52,7 @@ unfolding either pattern-variants
 pattern-variant-is (unit w) = (0, (w, refl))
 pattern-variant-is (struct w fs) = (1, ((w, fs), refl))
 
-pub pattern-variant-laws : Laws readPatternVariant encPatternVariant WithinPatternVariant 1
+pub pattern-variant-laws : Laws readPatternVariant encPatternVariant WithinPatternVariant 1 Never
 unfolding readPatternVariant patternVariantCases pattern-variants
 pattern-variant-laws = enum-laws pattern-variants pattern-variant-is
 
@@ -60,7 +60,7 @@ pub pattern-variant-solid : Solid readPatternVariant
 unfolding readPatternVariant
 pattern-variant-solid = enum-solid patternVariantCases
 
-pub pattern-laws : Laws readPattern encPattern WithinPattern 1
+pub pattern-laws : Laws readPattern encPattern WithinPattern 1 Never
 unfolding readPattern encPattern WithinPattern
 pattern-laws =
     record-laws (of name-laws also of (option-laws pattern-variant-laws pattern-variant-solid)) _ (λ x. (x .group, x .variant)) (λ _. refl) (λ _. refl) (omega arith)

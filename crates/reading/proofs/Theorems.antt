@@ -51,13 +51,13 @@ document-complete x w l =
 pub same-bytes : (s t : List ℕ) (x : Ir) (n m : ℕ) → Bytes s → Bytes t → readDocument s ≡ ok x n → readDocument t ≡ ok x m → s ≡ t
 same-bytes s t x n m B C e f = document-sound s B x n e .bytes ∙ sym (document-sound t C x m f .bytes)
 
-module _ {A : Type 0} {read : Reader A} {enc : A → List ℕ} {Within : A → Type 0} {k : ℕ} (L : Laws read enc Within (suc k)) where
+module _ {A : Type 0} {read : Reader A} {enc : A → List ℕ} {Within : A → Type 0} {k : ℕ} {D : List ℕ → ℕ → Type 0} (L : Laws read enc Within (suc k) D) where
   -- what is read depends on its own bytes alone
   pub local : (s : List ℕ) → Bytes s → (at : ℕ) (x : A) (n : ℕ) → read s at ≡ ok x n → (p q : List ℕ) → read (p ++ (enc x ++ q)) (length p) ≡ ok x (length p + length (enc x))
   local s B at x n e p q = L .complete (p ++ (enc x ++ q)) (length p) x _ (item-sound L s B at x n e .within) (at-here p (enc x) q)
 
 -- equal bytes, equal content
-pub one-encoding : {A : Type 0} {read : Reader A} {enc : A → List ℕ} {Within : A → Type 0} {k : ℕ} → Laws read enc Within k → (x y : A) → Within x → Within y → enc x ≡ enc y → x ≡ y
+pub one-encoding : {A : Type 0} {read : Reader A} {enc : A → List ℕ} {Within : A → Type 0} {k : ℕ} {D : List ℕ → ℕ → Type 0} → Laws read enc Within k D → (x y : A) → Within x → Within y → enc x ≡ enc y → x ≡ y
 one-encoding {read = read} {enc = enc} L x y v w e =
     let a = L .complete (enc x ++ []) 0 x _ v (at-here [] (enc x) []) in
     let b = L .complete (enc y ++ []) 0 y _ w (at-here [] (enc y) []) in

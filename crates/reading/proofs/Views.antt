@@ -311,7 +311,7 @@ pub present-at : {A : Type 0} {F : Reader A} {s : List ℕ} {at n : ℕ} {x : A}
 present-at (present p q) = q
 
 -- the bytes of an item
-pub spanned : {A : Type 0} {read : Reader A} {enc : A → List ℕ} {Within : A → Type 0} {k : ℕ} → Laws read enc Within (suc k) → (s : List ℕ) → Bytes s → (at : ℕ) → Gives (λ x n. (take (n - at) (drop at s) ≡ enc x) × (at ≤ n) × (n ≤ length s)) (read s at)
+pub spanned : {A : Type 0} {read : Reader A} {enc : A → List ℕ} {Within : A → Type 0} {k : ℕ} {D : List ℕ → ℕ → Type 0} → Laws read enc Within (suc k) D → (s : List ℕ) → Bytes s → (at : ℕ) → Gives (λ x n. (take (n - at) (drop at s) ≡ enc x) × (at ≤ n) × (n ≤ length s)) (read s at)
 spanned {enc = enc} L s B at x n q =
     let h = item-sound L s B at x n q .there in
     let l : n - at ≡ length (enc x) = omega (arith, h .end) in
