@@ -12,6 +12,8 @@ use Rattle.reading.specs.Item.{readTag}
 use Rattle.reading.specs.Combine.{Cases, sized, row, unknown, enumOf}
 use Rattle.reading.specs.Encode.{encHead, encCase}
 use Rattle.reading.specs.Items.{Items}
+use Rattle.reading.specs.declared.fault.Fault.{Fault}
+use Rattle.reading.specs.declared.fault.Fault.the-variants.{Unexpected}
 use Rattle.reading.specs.declared.item.Tag.{Tag}
 use Rattle.reading.proofs.Rules.{pick-true, pick-false, bind-ok, map-ok}
 use Rattle.reading.proofs.Gives.{Gives, gives-ok, gives-refused, gives-pick, gives-bind, gives-map}
@@ -69,6 +71,13 @@ unfolding row sized
 row-gives k items F make rest P s t n h r =
     gives-pick P _ _ _ (λ q. gives-map P make _ (gives-pick _ _ _ _ (λ c. h (eqb-true _ _ q) (eqb-true _ _ c)) (λ _. gives-refused _ _ _))) (λ _. r)
 
+-- and so for what is refused
+pub row-blames : {X A : Type 0} (k items : ℕ) (F : Reader X) (make : X → A) (rest : Cases A) (P : Fault → ℕ → Type 0) (s : List ℕ) (t : Tag) (n : ℕ)
+    → P Unexpected (t .start) → (t .case ≡ k → t .count ≡ items → Blames P (F s n)) → Blames P (rest s t n) → Blames P (row k items F make rest s t n)
+unfolding row sized
+row-blames k items F make rest P s t n u h r =
+    blames-pick P _ _ _ (λ q. blames-map P make _ (blames-pick P _ _ _ (λ c. h (eqb-true _ _ q) (eqb-true _ _ c)) (λ _. blames-refused P _ _ u))) (λ _. r)
+
 module _ {A : Type 0} (s : List ℕ) (t : Tag) (n : ℕ) where
   pub none-gives : (P : A → ℕ → Type 0) → Gives P (unknown s t n)
   unfolding unknown
@@ -110,11 +119,8 @@ module _ {A : Type 0} {enc : A → List ℕ} {Within : A → Type 0} {D : List �
     pub row-items : (s : List ℕ) (t : Tag) (n : ℕ) → Gives (λ _ m. Filled s t n m) (row-read s t n)
     row-items s t n = row-gives _ _ _ _ _ (λ _ m. Filled s t n m) s t n (λ q c x m e. record { fields = F .count; count = c; items = F .laws .items s n x m e }) (rest .items s t n)
 
-    pub row-blames : (s : List ℕ) (t : Tag) (n : ℕ) → Blames (Inner (D s)) (row-read s t n)
-    unfolding row sized
-    row-blames s t n =
-        blames-pick (Inner (D s)) _ _ _ (λ q. blames-map (Inner (D s)) _ _ (blames-pick (Inner (D s)) _ _ _ (λ c. F .laws .blames s n) (λ _. blames-refused (Inner (D s)) _ _ misfiled)))
-        (λ _. rest .blames s t n)
+    pub rows-blame : (s : List ℕ) (t : Tag) (n : ℕ) → Blames (Inner (D s)) (row-read s t n)
+    rows-blame s t n = row-blames _ _ _ _ _ (Inner (D s)) s t n misfiled (λ _ _. F .laws .blames s n) (rest .blames s t n)
 
     abbrev pub Here : A → Type 0
     Here a = (x : X) × (make x ≡ a)
@@ -151,7 +157,7 @@ module _ {A : Type 0} {enc : A → List ℕ} {Within : A → Type 0} {D : List �
       sound = row-sound;
       complete = λ case a. row-shown case a (eqb case k) refl;
       items = row-items;
-      blames = row-blames;
+      blames = rows-blame;
     }
 
   -- a data enum: its cases, and of which case each value is

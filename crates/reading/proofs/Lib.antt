@@ -18,3 +18,4 @@ pub mod FormulaLaws
 pub mod ModuleLaws
 pub mod Theorems
 pub mod Views
+pub mod Depth

@@ -9,6 +9,7 @@ use Rattle.reading.specs.Read.{Read, Reader, ok, refused, pick, bind, ma
 use Rattle.reading.specs.Item.{readKind, readNumber, readIrVersion, readFields}
 use Rattle.reading.specs.Combine.{_then_, recordOf, listOf}
 use Rattle.reading.specs.Items.{Items}
+use Rattle.reading.specs.Refusals.{Unborn}
 use Rattle.reading.specs.declared.fault.Fault.{Fault}
 use Rattle.reading.specs.declared.fault.Fault.the-variants.{UnknownVersion}
 use Rattle.reading.proofs.Rules.{pick-false, bind-ok, map-ok}
@@ -105,14 +106,6 @@ ir-complete s at x n w a = plain-agrees s at x n (plain-laws .complete s at x n 
 
 pub ir-items : (s : List ℕ) (at : ℕ) → Gives (λ _ n. Items s 1 at n) (readIr s at)
 ir-items s at x n e = plain-laws .items s at x n (ir-agrees s at x n e)
-
--- an ir_version that is too new, at the place p of the document that starts at `at`
-pub record Unborn (s : List ℕ) (at p : ℕ) : Type 0 where
-  pub opens : readFields 2 s at ≡ ok tt p
-  pub version : ℕ
-  pub end : ℕ
-  pub number : readKind 0 s p ≡ ok version end
-  pub newer : maxVersion < version
 
 -- a fault of an item, or 9
 pub ir-blames : (s : List ℕ) (at : ℕ) → Blames (λ f p. Inner (Nested s) f p ⊎ ((f ≡ UnknownVersion) × Unborn s at p)) (readIr s at)

@@ -17,3 +17,4 @@ pub mod Document
 pub mod Link
 pub mod Items
 pub mod Views
+pub mod Refusals
