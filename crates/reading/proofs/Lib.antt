@@ -19,3 +19,4 @@ pub mod ModuleLaws
 pub mod Theorems
 pub mod Views
 pub mod Depth
+pub mod Refusals

@@ -1,14 +1,14 @@
 -- When the rows 7, 8 and 9 of the table of refusals hold, each said by itself.
 use Prim.Native.Nat.{ℕ, suc, _<_}
 use mathlib.Core.Path.{_≡_}
-use mathlib.Core.List.{List}
+use mathlib.Core.List.{List, _++_}
 use lib.ListN.{length}
 use Rattle.reading.specs.Read.{ok}
 use Rattle.reading.specs.Limits.{maxU64, maxVersion}
 use Rattle.reading.specs.Item.{readKind, readNumber, readCase, readFields, readTag}
 use Rattle.reading.specs.Expr.{Expr, unaryOps, binOps, readExpr}
 use Rattle.reading.specs.Formula.{Formula, readFormula}
-use Rattle.reading.specs.Module.{Ir, readIr}
+use Rattle.reading.specs.Module.{Ir, readIr, encIr, WithinIr}
 use Rattle.reading.specs.declared.item.Tag.{Tag}
 
 -- 9: an ir_version that is too new stands at p, first in the document that starts at `at`
@@ -24,6 +24,15 @@ pub record Overhang (s : List ℕ) (p : ℕ) : Type 0 where
   pub content : Ir
   pub reads : readIr s 0 ≡ ok content p
   pub more : p < length s
+
+-- 8, by the bytes: those of a content within the limits, and more after them
+pub record Longer (s : List ℕ) (p : ℕ) : Type 0 where
+  pub content : Ir
+  pub within : WithinIr content
+  pub rest : List ℕ
+  pub bytes : s ≡ encIr content ++ rest
+  pub more : 0 < length rest
+  pub place : p ≡ length (encIr content)
 
 -- a data enum of this case and count stands at `at`, and its fields start at m
 pub record Opens (s : List ℕ) (at case count m : ℕ) : Type 0 where
