@@ -1,14 +1,14 @@
 -- The laws of what is made from readers: nothing, one after the other, records, lists and options, each once.
 use Prim.Native.Nat.{ℕ, zero, suc, _+_, _<_, _≤_}
-use mathlib.Core.Path.{_≡_, refl, sym, ap, _∙_, subst}
+use mathlib.Core.Path.{_≡_, refl, sym, ap, subst}
 use mathlib.Core.List.{List, [], _∷_, _++_}
 use mathlib.Core.Option.{Option, none, some}
-use mathlib.Core.Bool.{Bool, true, false}
+use mathlib.Core.Bool.{Bool}
 use native.Mathlib.Omega.{arith}
 use lib.ListN.{length, getD, List·getD-eq-default}
-use lib.Dec.{eqb, leb}
+use lib.Dec.{leb}
 use borrow.Author.Tests.{eqb-true, ne-eqb, lt-leb, leb-true, leb-false}
-use Rattle.reading.specs.Read.{Read, Reader, ok, refused, pick, bind, mapR}
+use Rattle.reading.specs.Read.{Reader, ok, refused}
 use Rattle.reading.specs.Limits.{maxU64}
 use Rattle.reading.specs.Head.{readHead, headWith, simple}
 use Rattle.reading.specs.Item.{readKind, readNumber, readFields, readTag}
@@ -18,14 +18,14 @@ use Rattle.reading.specs.Encode.{put1, encHead, encAll, encList, encOpti
 use Rattle.reading.specs.Items.{Items}
 use Rattle.reading.specs.declared.fault.Fault.the-variants.{Unexpected}
 use Rattle.reading.proofs.Rules.{by, no, pick-true, pick-false, bind-ok, bind-out, map-ok}
-use Rattle.reading.proofs.Gives.{Gives, gives-ok, gives-refused, gives-pick, gives-bind, gives-map}
+use Rattle.reading.proofs.Gives.{Gives, gives-ok, gives-pick, gives-bind, gives-map}
 use Rattle.reading.proofs.At.{At, at-join, at-split, at-nil, at-byte, at-first}
 use Rattle.reading.proofs.HeadSound.{Bytes}
 use Rattle.reading.proofs.Blames.{Blames, Inner, blames-ok, blames-pick, blames-bind, blames-map}
 use Rattle.reading.proofs.Items.{items-join, array-item, plain-item}
 use Rattle.reading.specs.Items.{none as no-item}
 use Rattle.reading.proofs.Formats.{Is, Laws, Never, Format, of}
-use Rattle.reading.proofs.Leaves.{AtMost, kind-sound, fields-kind, fields-complete, fields-blames, count-kind, count-complete, count-blames}
+use Rattle.reading.proofs.Leaves.{kind-sound, fields-kind, fields-complete, fields-blames, count-kind, count-complete, count-blames}
 
 -- no item
 pub nothing-laws : Laws nothing (λ _. []) (λ _. Unit {0}) 0 Never

@@ -7,10 +7,10 @@ use Rattle.reading.specs.Limits.{maxU32, maxList, maxDepth}
 use Rattle.reading.specs.Combine.{pair}
 use Rattle.reading.specs.Encode.{encText, encList, WithinName, WithinList}
 use Rattle.reading.specs.Expr.{readExpr}
-use Rattle.reading.specs.Decl.{EnumDecl, Ty, bool, bit, enum, FieldDecl, ConstructorVariant, unit, struct, ConstructorGroup, VarDecl}
+use Rattle.reading.specs.Decl.{Ty, bool, bit, enum, ConstructorVariant, unit, struct}
 use Rattle.reading.specs.Decl.{readNames, readEnumDecl, tyCases, readTy, readFieldDecl, constructorVariantCases, readConstructorVariant, readConstructorGroup, readVarDecl}
 use Rattle.reading.specs.Decl.{encEnumDecl, encTy, encFieldDecl, encConstructorVariant, encConstructorGroup, encVarDecl, WithinEnumDecl, WithinTy, WithinFieldDecl, WithinConstructorVariant, WithinConstructorGroup, WithinVarDecl}
-use Rattle.reading.proofs.Formats.{Laws, Never, From, Format, of, flat, by-bytes}
+use Rattle.reading.proofs.Formats.{Laws, Never, From, of, flat, by-bytes}
 use Rattle.reading.proofs.Leaves.{number-laws}
 use Rattle.reading.proofs.Combined.{nothing-laws, _also_, record-laws, list-laws}
 use Rattle.reading.proofs.Enums.{either, Rows, none, case, enum-laws}

@@ -1,24 +1,21 @@
 -- 7 is given exactly where an expression or formula starts with no level left: by recursion on the levels, each way.
 use Prim.Native.Nat.{ℕ, zero, suc}
-use mathlib.Core.Path.{_≡_, refl, sym, ap, _∙_, subst}
+use mathlib.Core.Path.{_≡_, refl}
 use mathlib.Core.List.{List}
-use mathlib.Core.Bool.{Bool, true, false}
 use mathlib.Core.Logic.{_↔_}
-use lib.Dec.{eqb}
-use Rattle.reading.specs.Read.{Read, Reader, ok, refused, pick, bind, mapR}
+use Rattle.reading.specs.Read.{Reader, ok, refused}
 use Rattle.reading.specs.Limits.{maxU64}
-use Rattle.reading.specs.Item.{readNumber, readTag}
+use Rattle.reading.specs.Item.{readNumber}
 use Rattle.reading.specs.Combine.{_then_, sized, row, enumOf}
 use Rattle.reading.specs.Expr.{Expr, exprCases, readExpr}
 use Rattle.reading.specs.Formula.{Formula, formulaCases, readFormula}
 use Rattle.reading.specs.Refusals.{Opens, DeepExpr, here, operand, left, right, One, not, next, always, eventually, Bounded, bounded-always, bounded-eventually, Two, and, or, implies, until, DeepFormula, expr, inside, bounded}
 use Rattle.reading.specs.declared.fault.Fault.{Fault}
 use Rattle.reading.specs.declared.fault.Fault.the-variants.{TooDeep}
-use Rattle.reading.specs.declared.item.Tag.{Tag}
-use Rattle.reading.proofs.Rules.{pick-true, pick-false, bind-ok, bind-out, map-ok, map-out}
+use Rattle.reading.proofs.Rules.{pick-true, pick-false, bind-ok, bind-out, map-out}
 use Rattle.reading.proofs.Blames.{Blames, Inner, misfiled, nested, inner-more, blames-refused, blames-bind, blames-map}
 use Rattle.reading.proofs.Formats.{Laws, Never}
-use Rattle.reading.proofs.Leaves.{number-laws, case-laws, bool-laws, tag-blames, number-blames, case-blames}
+use Rattle.reading.proofs.Leaves.{bool-laws, tag-blames, number-blames, case-blames}
 use Rattle.reading.proofs.Enums.{row-blames, none-blames}
 use Rattle.reading.proofs.ExprLaws.{path-laws}
 use Rattle.reading.proofs.PatternLaws.{pattern-laws}

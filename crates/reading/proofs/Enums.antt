@@ -1,13 +1,12 @@
 -- The laws of data enums, from those of the fields of each case: one row for a case.
-use Prim.Native.Nat.{ℕ, zero, suc, _+_, _<_, _≤_}
+use Prim.Native.Nat.{ℕ, suc, _+_, _<_}
 use mathlib.Core.Path.{_≡_, refl, sym, ap, _∙_, subst, subst⁻¹}
 use mathlib.Core.List.{List, _++_}
 use mathlib.Core.Bool.{Bool, true, false}
 use native.Mathlib.Omega.{arith}
-use lib.ListN.{length}
 use lib.Dec.{eqb, ltb, lit<, T}
 use borrow.Author.Tests.{eqb-true, eq-eqb, ne-eqb}
-use Rattle.reading.specs.Read.{Read, Reader, ok, refused, pick, bind, mapR}
+use Rattle.reading.specs.Read.{Reader, ok, refused}
 use Rattle.reading.specs.Item.{readTag}
 use Rattle.reading.specs.Combine.{Cases, sized, row, unknown, enumOf}
 use Rattle.reading.specs.Encode.{encHead, encCase}
@@ -16,10 +15,10 @@ use Rattle.reading.specs.declared.fault.Fault.{Fault}
 use Rattle.reading.specs.declared.fault.Fault.the-variants.{Unexpected}
 use Rattle.reading.specs.declared.item.Tag.{Tag}
 use Rattle.reading.proofs.Rules.{pick-true, pick-false, bind-ok, map-ok}
-use Rattle.reading.proofs.Gives.{Gives, gives-ok, gives-refused, gives-pick, gives-bind, gives-map}
+use Rattle.reading.proofs.Gives.{Gives, gives-refused, gives-pick, gives-bind, gives-map}
 use Rattle.reading.proofs.At.{At, at-join, at-split}
 use Rattle.reading.proofs.HeadSound.{Bytes}
-use Rattle.reading.proofs.Blames.{Blames, Inner, blames-ok, blames-refused, blames-pick, blames-bind, blames-map, misfiled}
+use Rattle.reading.proofs.Blames.{Blames, Inner, blames-refused, blames-pick, blames-bind, blames-map, misfiled}
 use Rattle.reading.proofs.Items.{items-join, array-item, plain-item}
 use Rattle.reading.proofs.Formats.{Is, Laws, Format}
 use Rattle.reading.proofs.Leaves.{kind-sound, kind-complete, tag-kinds, tag-blames}

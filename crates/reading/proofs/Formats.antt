@@ -5,7 +5,7 @@ use mathlib.Core.Path.{_≡_, refl, sym, subst}
 use mathlib.Core.List.{List}
 use native.Mathlib.Omega.{arith}
 use lib.ListN.{length}
-use Rattle.reading.specs.Read.{Read, Reader, ok, refused}
+use Rattle.reading.specs.Read.{Reader, ok, refused}
 use Rattle.reading.specs.Items.{Items}
 use Rattle.reading.specs.declared.fault.Fault.{Fault}
 use Rattle.reading.specs.declared.fault.Fault.the-variants.{TooDeep}

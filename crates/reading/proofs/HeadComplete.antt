@@ -1,14 +1,13 @@
 -- The shortest head of an argument is read as that argument.
-use Prim.Native.Nat.{ℕ, zero, suc, _+_, _-_, _*_, _/_, _%_, _<_, _≤_}
-use mathlib.Core.Path.{_≡_, refl, sym, ap, _∙_, subst}
-use mathlib.Core.List.{List, [], _∷_, _++_}
-use mathlib.Core.Bool.{Bool, true, false}
+use Prim.Native.Nat.{ℕ, _+_, _-_, _*_, _/_, _%_, _<_, _≤_}
+use mathlib.Core.Path.{_≡_, refl, _∙_}
+use mathlib.Core.List.{List, _++_}
 use native.Mathlib.Omega.{arith}
 use lib.ListN.{length, getD}
-use lib.Dec.{ltb, leb, eqb}
-use borrow.Author.Tests.{ltb-true, ltb-false, eqb-true, eqb-false, lt-ltb, le-ltb, lt-leb, eq-eqb, ne-eqb}
-use Rattle.reading.specs.Read.{Read, ok, refused, pick}
-use Rattle.reading.specs.Head.{Hd, longHead, settled, wideHead, simple, readHead, headWith, be1, be2, be4, be8}
+use lib.Dec.{ltb, eqb}
+use borrow.Author.Tests.{ltb-true, ltb-false, eqb-true, le-ltb, lt-leb, ne-eqb}
+use Rattle.reading.specs.Read.{ok}
+use Rattle.reading.specs.Head.{longHead, settled, wideHead, simple, readHead, headWith, be1, be2, be4, be8}
 use Rattle.reading.specs.Encode.{put1, put2, put4, put8, encHead}
 use Rattle.reading.proofs.Rules.{by, pick-true, pick-false}
 use Rattle.reading.proofs.At.{At, at-split, at-first}

@@ -1,13 +1,10 @@
 -- A head that is read is the shortest head of what it says.
-use Prim.Native.Nat.{ℕ, zero, suc, _+_, _-_, _*_, _/_, _%_, _<_, _≤_}
-use mathlib.Core.Path.{_≡_, refl, sym, ap, _∙_, subst}
-use mathlib.Core.List.{List, [], _∷_, _++_}
-use mathlib.Core.Bool.{Bool, true, false}
+use Prim.Native.Nat.{ℕ, _+_, _-_, _*_, _/_, _%_, _<_, _≤_}
+use mathlib.Core.Path.{_≡_, refl, subst}
+use mathlib.Core.List.{List, _++_}
 use native.Mathlib.Omega.{arith}
 use lib.ListN.{length, getD}
-use lib.Dec.{ltb, leb, eqb}
 use borrow.Author.Tests.{ltb-true, ltb-false, leb-false, eqb-true, eqb-false, lt-ltb, le-ltb}
-use Rattle.reading.specs.Read.{Read, ok, refused, pick, bind}
 use Rattle.reading.specs.Head.{Hd, longHead, settled, wideHead, simple, readHead, headWith, be1, be2, be4, be8}
 use Rattle.reading.specs.Encode.{put1, put2, put4, put8, encHead}
 use Rattle.reading.proofs.Rules.{pick-true, pick-false}

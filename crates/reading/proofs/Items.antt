@@ -1,17 +1,17 @@
 -- Items one after another: how they join, and that a count of items from a place ends in one place only.
-use Prim.Native.Nat.{ℕ, zero, suc, _+_, _-_, _<_, _≤_}
-use mathlib.Core.Path.{_≡_, refl, sym, ap, _∙_, subst}
+use Prim.Native.Nat.{ℕ, suc, _+_, _<_, _≤_}
+use mathlib.Core.Path.{_≡_, refl, ap, _∙_, subst}
 use mathlib.Core.List.{List}
-use mathlib.Core.Bool.{Bool, true, false}
+use mathlib.Core.Bool.{false}
 use native.Mathlib.Omega.{arith}
 use lib.ListN.{length}
 use lib.Dec.{eqb}
 use borrow.Author.Tests.{eqb-true, ltb-false, leb-false}
-use Rattle.reading.specs.Read.{Read, ok, refused, pick, bind}
+use Rattle.reading.specs.Read.{ok, pick}
 use Rattle.reading.specs.Head.{Hd, longHead, settled, wideHead, simple, readHead, headWith}
 use Rattle.reading.specs.Item.{readKind}
 use Rattle.reading.specs.Items.{inside, payload, Items, none, more}
-use Rattle.reading.proofs.Rules.{pick-true, pick-false}
+use Rattle.reading.proofs.Rules.{pick-false}
 use Rattle.reading.proofs.Gives.{Gives, gives-ok, gives-refused, gives-pick, gives-bind}
 
 -- what a head that is read tells of its place

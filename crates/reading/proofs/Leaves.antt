@@ -1,17 +1,16 @@
 -- The laws of items of one head: numbers, case numbers, bools, the heads of arrays; and of strings.
 use Prim.Native.Nat.{ℕ, _+_, _-_, _<_, _≤_}
 use mathlib.Core.Path.{_≡_, refl, sym, ap, _∙_, subst}
-use mathlib.Core.List.{List, [], _∷_, _++_}
+use mathlib.Core.List.{List, _++_}
 use mathlib.Core.Bool.{Bool, true, false}
 use native.Mathlib.Omega.{arith}
-use lib.ListN.{length, getD, take, drop, take-append-drop, length-drop}
+use lib.ListN.{length, take, drop, take-append-drop, length-drop}
 use lib.Seq.{drop-drop, length-take-le, take-append-seam}
-use lib.Dec.{ltb, leb, eqb}
-use borrow.Author.Tests.{ltb-true, ltb-false, eqb-true, lt-ltb, le-ltb, eq-eqb, ne-eqb}
-use Rattle.reading.specs.Read.{Read, Reader, ok, refused, pick, bind}
+use borrow.Author.Tests.{ltb-true, ltb-false, eqb-true, lt-ltb, le-ltb, eq-eqb}
+use Rattle.reading.specs.Read.{ok, refused}
 use Rattle.reading.specs.Limits.{maxText, maxU64}
 use Rattle.reading.specs.Item.{readKind, readNumber, readCase, readBool, readFields, readCount, readTag}
-use Rattle.reading.specs.Text.{Name, all, textBytes, readText}
+use Rattle.reading.specs.Text.{Name, textBytes, readText}
 use Rattle.reading.specs.Encode.{encHead, encBool, encText, WithinText}
 use Rattle.reading.specs.Items.{Items}
 use Rattle.reading.specs.declared.item.Tag.{Tag}

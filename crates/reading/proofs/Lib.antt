@@ -20,3 +20,4 @@ pub mod Theorems
 pub mod Views
 pub mod Depth
 pub mod Refusals
+pub mod Examples

@@ -1,12 +1,12 @@
 -- The laws of modules, from those of their fields; and of a document's content, whose first number has a refusal of its own.
-use Prim.Native.Nat.{ℕ, _<_}
+use Prim.Native.Nat.{ℕ}
 use mathlib.Core.Path.{_≡_, refl}
 use mathlib.Core.List.{List, append-assoc}
 use mathlib.Core.Logic.{_⊎_, inl, inr}
 use native.Mathlib.Omega.{arith}
 use borrow.Author.Tests.{ltb-true}
-use Rattle.reading.specs.Read.{Read, Reader, ok, refused, pick, bind, mapR}
-use Rattle.reading.specs.Item.{readKind, readNumber, readIrVersion, readFields}
+use Rattle.reading.specs.Read.{Reader, ok}
+use Rattle.reading.specs.Item.{readNumber, readIrVersion}
 use Rattle.reading.specs.Combine.{_then_, recordOf, listOf}
 use Rattle.reading.specs.Items.{Items}
 use Rattle.reading.specs.Refusals.{Unborn}
@@ -20,8 +20,8 @@ use Rattle.reading.proofs.HeadSound.{Bytes}
 use Rattle.reading.specs.Limits.{maxList, maxDepth, maxModules, maxVersion}
 use Rattle.reading.specs.Expr.{readExpr}
 use Rattle.reading.specs.Formula.{readFormula}
-use Rattle.reading.specs.Module.{Property, Module, Ir, readProperty, readModule, readIr, encProperty, encModule, encIr, WithinProperty, WithinModule, WithinIr}
-use Rattle.reading.proofs.Formats.{Is, Laws, From, Format, of, deeper, flat, by-bytes, item-sound}
+use Rattle.reading.specs.Module.{Ir, readProperty, readModule, readIr, encProperty, encModule, encIr, WithinProperty, WithinModule, WithinIr}
+use Rattle.reading.proofs.Formats.{Is, Laws, From, of, deeper, flat, by-bytes, item-sound}
 use Rattle.reading.proofs.Leaves.{number-laws, fields-blames}
 use Rattle.reading.proofs.Combined.{_also_, record-laws, list-laws, option-laws}
 use Rattle.reading.proofs.ExprLaws.{name-laws, name-solid, version-laws, version-solid}

@@ -4,10 +4,10 @@ use mathlib.Core.Path.{refl}
 use native.Mathlib.Omega.{arith}
 use Rattle.reading.specs.Limits.{maxList}
 use Rattle.reading.specs.Combine.{pair}
-use Rattle.reading.specs.Pattern.{PatternExpr, wildcard, bind, int, bool, enumVariant, PatternField, PatternVariant, unit, struct, Pattern}
+use Rattle.reading.specs.Pattern.{PatternExpr, wildcard, bind, int, bool, enumVariant, PatternVariant, unit, struct}
 use Rattle.reading.specs.Pattern.{patternExprCases, readPatternExpr, readPatternField, patternVariantCases, readPatternVariant, readPattern}
 use Rattle.reading.specs.Pattern.{encPatternExpr, encPatternField, encPatternVariant, encPattern, WithinPatternExpr, WithinPatternField, WithinPatternVariant, WithinPattern}
-use Rattle.reading.proofs.Formats.{Laws, Never, Format, of}
+use Rattle.reading.proofs.Formats.{Laws, Never, of}
 use Rattle.reading.proofs.Leaves.{bool-laws}
 use Rattle.reading.proofs.Combined.{nothing-laws, _also_, record-laws, list-laws, option-laws, Solid, enum-solid}
 use Rattle.reading.proofs.Enums.{either, Rows, none, case, enum-laws}

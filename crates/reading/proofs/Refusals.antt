@@ -1,15 +1,15 @@
 -- Each answer to a document, and when it is given: what a refusal says is taken from the one place in the definition that gives it.
 use Prim.Native.Nat.{ℕ, _+_, _<_, _≤_}
-use mathlib.Core.Path.{_≡_, refl, sym, ap, _∙_, subst}
+use mathlib.Core.Path.{_≡_, refl, sym, ap, subst}
 use mathlib.Core.List.{List, [], _++_}
 use mathlib.Core.Logic.{_↔_, _⊎_, inl, inr}
 use native.Mathlib.Omega.{arith}
 use lib.ListN.{length, drop, length-append, length-drop}
 use borrow.Author.Tests.{ltb-true, ltb-false, lt-ltb, le-ltb}
-use Rattle.reading.specs.Read.{Read, ok, refused, pick, bind, mapR}
+use Rattle.reading.specs.Read.{Read, ok, refused}
 use Rattle.reading.specs.Limits.{maxDocument, maxDepth, maxVersion}
 use Rattle.reading.specs.Fault.{number}
-use Rattle.reading.specs.Item.{readKind, readFields, readIrVersion}
+use Rattle.reading.specs.Item.{readIrVersion}
 use Rattle.reading.specs.Combine.{_then_, recordOf}
 use Rattle.reading.specs.Expr.{readExpr}
 use Rattle.reading.specs.Formula.{readFormula}

@@ -1,14 +1,14 @@
 -- The theorems of the reading layer: an accepted document is the one encoding of a content within the limits, and every such encoding is accepted.
-use Prim.Native.Nat.{ℕ, suc, _+_, _<_, _≤_}
-use mathlib.Core.Path.{_≡_, refl, sym, ap, _∙_, subst}
-use mathlib.Core.List.{List, [], _∷_, _++_, append-nil}
+use Prim.Native.Nat.{ℕ, suc, _+_, _≤_}
+use mathlib.Core.Path.{_≡_, sym, ap, _∙_, subst}
+use mathlib.Core.List.{List, [], _++_, append-nil}
 use native.Mathlib.Omega.{arith}
 use lib.ListN.{length, drop}
 use lib.Seq.{drop-length}
 use borrow.Author.Tests.{ltb-false, le-ltb}
-use Rattle.reading.specs.Read.{Read, Reader, ok, refused, pick, bind}
+use Rattle.reading.specs.Read.{Reader, ok}
 use Rattle.reading.specs.Limits.{maxDocument}
-use Rattle.reading.specs.Module.{Ir, readIr, encIr, WithinIr}
+use Rattle.reading.specs.Module.{Ir, encIr, WithinIr}
 use Rattle.reading.specs.Document.{readDocument}
 use Rattle.reading.proofs.Rules.{pick-false, bind-ok}
 use Rattle.reading.proofs.Gives.{Gives, gives-ok, gives-refused, gives-pick, gives-bind}

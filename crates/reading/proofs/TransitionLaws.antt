@@ -1,13 +1,12 @@
 -- The laws of transitions and of what they emit and set, from those of their fields.
-use Prim.Native.Nat.{ℕ}
 use mathlib.Core.Path.{refl}
 use mathlib.Core.List.{append-assoc}
 use native.Mathlib.Omega.{arith}
 use Rattle.reading.specs.Limits.{maxU32, maxList, maxDepth}
 use Rattle.reading.specs.Expr.{readExpr, encExpr}
-use Rattle.reading.specs.Transition.{OutputExpr, Assignment, OnError, Transition, readTopExpr, readOutputExpr, readAssignment, readOnError, readTransition}
+use Rattle.reading.specs.Transition.{readTopExpr, readOutputExpr, readAssignment, readOnError, readTransition}
 use Rattle.reading.specs.Transition.{encOutputExpr, encAssignment, encOnError, encTransition, WithinTopExpr, WithinOutputExpr, WithinAssignment, WithinOnError, WithinTransition}
-use Rattle.reading.proofs.Formats.{Laws, From, Format, of, flat, by-bytes}
+use Rattle.reading.proofs.Formats.{Laws, From, of, flat, by-bytes}
 use Rattle.reading.proofs.Leaves.{number-laws}
 use Rattle.reading.proofs.Combined.{_also_, record-laws, list-laws, option-laws, Solid, number-solid, record-solid}
 use Rattle.reading.proofs.ExprLaws.{u64, name-laws, name-solid, expr-laws, expr-solid}

@@ -2,22 +2,22 @@
 use Prim.Native.Nat.{ℕ, zero, suc, _+_, _-_, _<_, _≤_}
 use mathlib.Core.Path.{_≡_, refl, sym, ap, _∙_, subst}
 use mathlib.Core.List.{List, [], _∷_}
-use mathlib.Core.Option.{Option, none, some}
+use mathlib.Core.Option.{none, some}
 use native.Mathlib.Omega.{arith}
 use native.Mathlib.Numerals.{add-one}
 use native.Mathlib.Nat.{sub-zero}
 use lib.ListN.{length, take, drop, getD}
 use lib.Seq.{take-append-seam}
 use borrow.Author.Tests.{eqb-true, eqb-false}
-use Rattle.reading.specs.Read.{Read, Reader, ok, refused, pick, bind, mapR}
+use Rattle.reading.specs.Read.{Reader, ok}
 use Rattle.reading.specs.Item.{readFields, readTag}
-use Rattle.reading.specs.Text.{Name, nameByte, readName}
-use Rattle.reading.specs.Combine.{nothing, _then_, recordOf, entries, listOf, optional, Cases, sized, row, unknown, enumOf}
-use Rattle.reading.specs.Expr.{Expr, exprCases, readExpr}
+use Rattle.reading.specs.Text.{nameByte, readName}
+use Rattle.reading.specs.Combine.{nothing, _then_, recordOf, entries, listOf, optional, Cases, row, enumOf}
+use Rattle.reading.specs.Expr.{exprCases, readExpr}
 use Rattle.reading.specs.Decl.{tyCases, readTy, constructorVariantCases, readConstructorVariant, readEnumDecl, readFieldDecl, readConstructorGroup, readVarDecl}
 use Rattle.reading.specs.Pattern.{patternExprCases, readPatternExpr, patternVariantCases, readPatternVariant, readPatternField, readPattern}
 use Rattle.reading.specs.Transition.{readOutputExpr, readAssignment, readOnError, readTransition}
-use Rattle.reading.specs.Formula.{Formula, formulaCases, readFormula}
+use Rattle.reading.specs.Formula.{formulaCases, readFormula}
 use Rattle.reading.specs.Module.{readProperty, readModule, readIr}
 use Rattle.reading.specs.Views.{NameAt, ListAt, Rest, Turn, OptionAt, absent, present, EnumDeclAt, FieldDeclAt, ConstructorGroupAt, VarDeclAt, PatternFieldAt, PatternAt, OutputExprAt, AssignmentAt, OnErrorAt, TransitionAt, PropertyAt, ModuleAt, IrAt}
 use Rattle.reading.specs.Views.{EnumAt, ExprAt, int-expr, bool-expr, path-expr, unary-expr, binary-expr, TyAt, bool-ty, bit-ty, enum-ty, ConstructorVariantAt, unit-variant, struct-variant}
@@ -25,7 +25,7 @@ use Rattle.reading.specs.Views.{PatternExprAt, wildcard-pattern, bind-pa
 use Rattle.reading.specs.Views.{FormulaAt, input-formula, output-formula, expr-formula, not-formula, and-formula, or-formula, implies-formula, next-formula, always-formula, bounded-always-formula, bounded-eventually-formula, eventually-formula, until-formula}
 use Rattle.reading.specs.declared.item.Tag.{Tag}
 use Rattle.reading.proofs.Rules.{no}
-use Rattle.reading.proofs.Gives.{Gives, gives-ok, gives-refused, gives-pick, gives-bind, gives-map}
+use Rattle.reading.proofs.Gives.{Gives, gives-ok, gives-pick, gives-bind, gives-map}
 use Rattle.reading.proofs.HeadSound.{Bytes}
 use Rattle.reading.proofs.Formats.{Laws, item-sound}
 use Rattle.reading.proofs.Leaves.{count-kind, text-at}
