@@ -11,10 +11,11 @@ use Rattle.reading.specs.Decl.{Ty, bool, bit, enum, ConstructorVariant, 
 use Rattle.reading.specs.Decl.{readNames, readEnumDecl, tyCases, readTy, readFieldDecl, constructorVariantCases, readConstructorVariant, readConstructorGroup, readVarDecl}
 use Rattle.reading.specs.Decl.{encEnumDecl, encTy, encFieldDecl, encConstructorVariant, encConstructorGroup, encVarDecl, WithinEnumDecl, WithinTy, WithinFieldDecl, WithinConstructorVariant, WithinConstructorGroup, WithinVarDecl}
 use Rattle.reading.proofs.Formats.{Laws, Never, From, of, flat, by-bytes}
-use Rattle.reading.proofs.Leaves.{number-laws}
-use Rattle.reading.proofs.Combined.{nothing-laws, _also_, record-laws, list-laws}
-use Rattle.reading.proofs.Enums.{either, Rows, none, case, enum-laws}
 use Rattle.reading.proofs.ExprLaws.{name-laws, expr-laws}
+use Rattle.reading.proofs.ItemLaws.{number-laws}
+use Rattle.reading.proofs.RecordLaws.{nothing-laws, _also_, record-laws}
+use Rattle.reading.proofs.ListLaws.{list-laws}
+use Rattle.reading.proofs.EnumLaws.{either, Rows, none, case, enum-laws}
 
 pub names-laws : Laws readNames (encList encText) (WithinList maxList WithinName) 1 Never
 unfolding readNames

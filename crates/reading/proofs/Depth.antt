@@ -15,10 +15,10 @@ use Rattle.reading.specs.declared.fault.Fault.the-variants.{TooDeep}
 use Rattle.reading.proofs.Rules.{pick-true, pick-false, bind-ok, bind-out, map-out}
 use Rattle.reading.proofs.Blames.{Blames, Inner, misfiled, nested, inner-more, blames-refused, blames-bind, blames-map}
 use Rattle.reading.proofs.Formats.{Laws, Never}
-use Rattle.reading.proofs.Leaves.{bool-laws, tag-blames, number-blames, case-blames}
-use Rattle.reading.proofs.Enums.{row-blames, none-blames}
 use Rattle.reading.proofs.ExprLaws.{path-laws}
 use Rattle.reading.proofs.PatternLaws.{pattern-laws}
+use Rattle.reading.proofs.ItemLaws.{bool-laws, tag-blames, number-blames, case-blames}
+use Rattle.reading.proofs.EnumLaws.{row-blames, none-blames}
 
 -- of one after the other
 then-blames : {A B : Type 0} (P : Fault → ℕ → Type 0) (F : Reader A) (G : Reader B) (s : List ℕ) (at : ℕ) → Blames P (F s at) → ((a : A) (n : ℕ) → F s at ≡ ok a n → Blames P (G s n)) → Blames P ((F then G) s at)

@@ -9,9 +9,12 @@ use Rattle.reading.specs.Combine.{pair, triple}
 use Rattle.reading.specs.Encode.{encText, WithinName, WithinVersion}
 use Rattle.reading.specs.Expr.{Expr, int, bool, path, unary, binary, unaryOps, binOps, readPath, exprCases, readExpr, encPath, encExpr, WithinPath, WithinExpr}
 use Rattle.reading.proofs.Formats.{Laws, Never, From, Format, of, own, flat, refusing}
-use Rattle.reading.proofs.Leaves.{number-laws, case-laws, bool-laws, text-laws}
-use Rattle.reading.proofs.Combined.{Solid, text-solid, enum-solid, _also_, list-laws}
-use Rattle.reading.proofs.Enums.{either, Rows, none, case, enum-laws}
+use Rattle.reading.proofs.ItemLaws.{number-laws, case-laws, bool-laws}
+use Rattle.reading.proofs.TextLaws.{text-laws}
+use Rattle.reading.proofs.RecordLaws.{_also_}
+use Rattle.reading.proofs.ListLaws.{list-laws}
+use Rattle.reading.proofs.OptionLaws.{Solid, text-solid, enum-solid}
+use Rattle.reading.proofs.EnumLaws.{either, Rows, none, case, enum-laws}
 
 pub name-laws : Laws readName encText WithinName 1 Never
 unfolding readName

@@ -7,10 +7,10 @@ use Rattle.reading.specs.Combine.{pair}
 use Rattle.reading.specs.Expr.{readExpr}
 use Rattle.reading.specs.Formula.{Formula, inputIs, outputHas, expr, not, and, or, implies, next, always, boundedAlways, boundedEventually, eventually, until, formulaCases, readFormula, encFormula, WithinFormula}
 use Rattle.reading.proofs.Formats.{Laws, From, of, deeper, own, flat, refusing}
-use Rattle.reading.proofs.Combined.{_also_}
-use Rattle.reading.proofs.Enums.{either, Rows, none, case, enum-laws}
 use Rattle.reading.proofs.ExprLaws.{u64, expr-laws}
 use Rattle.reading.proofs.PatternLaws.{pattern-laws}
+use Rattle.reading.proofs.RecordLaws.{_also_}
+use Rattle.reading.proofs.EnumLaws.{either, Rows, none, case, enum-laws}
 
 -- where an expression or a formula one level deeper starts
 abbrev Beneath : ℕ → List ℕ → ℕ → Type 0

@@ -1,5 +1,5 @@
 -- Items one after another: how they join, and that a count of items from a place ends in one place only.
-use Prim.Native.Nat.{ℕ, suc, _+_, _<_, _≤_}
+use Prim.Native.Nat.{ℕ, suc, _+_, _-_, _<_, _≤_}
 use mathlib.Core.Path.{_≡_, refl, ap, _∙_, subst}
 use mathlib.Core.List.{List}
 use mathlib.Core.Bool.{false}
@@ -11,7 +11,7 @@ use Rattle.reading.specs.Read.{ok, pick}
 use Rattle.reading.specs.Head.{Hd, longHead, settled, wideHead, simple, readHead, headWith}
 use Rattle.reading.specs.Item.{readKind}
 use Rattle.reading.specs.Items.{inside, payload, Items, none, more}
-use Rattle.reading.proofs.Rules.{pick-false}
+use Rattle.reading.proofs.Rules.{no, pick-false}
 use Rattle.reading.proofs.Gives.{Gives, gives-ok, gives-refused, gives-pick, gives-bind}
 
 -- what a head that is read tells of its place
@@ -53,6 +53,12 @@ module _ (s : List ℕ) (at : ℕ) where
       (e ∙ ap (λ (z : ℕ). ok (record { major = z; argument = h .argument }) n) (eqb-true _ _ q)))
       (λ _. gives-refused _ _ _)
 
+pub record Open (s : List ℕ) (k at n : ℕ) : Type 0 where
+  pub head : Hd
+  pub after : ℕ
+  pub reads : readHead s at ≡ ok head after
+  pub rest : Items s (k - 1 + inside head) (after + payload head) n
+
 module _ {s : List ℕ} where
   same-run : {j k a b n : ℕ} → Items s j a n → j ≡ k → a ≡ b → Items s k b n
   same-run {j} {k} {a} {b} {n} r x y = subst (λ (z : ℕ). Items s k z n) y (subst (λ (z : ℕ). Items s z a n) x r)
@@ -78,6 +84,15 @@ module _ {s : List ℕ} where
       let x : k + inside h' ≡ k + inside h = ap (λ (z : Hd). k + inside z) (cc) in
       let y : m' + payload h' ≡ m + payload h = cc in
       items-same q (same-run q' x y)
+
+  -- none
+  pub items-closed : {a n : ℕ} → Items s 0 a n → a ≡ n
+  items-closed none = refl
+
+  -- the first, by its head, and those after the head
+  pub items-open : {k a n : ℕ} → 0 < k → Items s k a n → Open s k a n
+  items-open h none = let z : _≡_ {A = ℕ} 0 1 = omega arith in no z
+  items-open h (more {k = i} x m e q) = record { head = x; after = m; reads = e; rest = same-run q (omega arith) refl }
 
   module _ {at v m : ℕ} where
     -- an array and the items in it

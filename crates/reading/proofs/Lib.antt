@@ -7,9 +7,12 @@ pub mod HeadComplete
 pub mod Blames
 pub mod Items
 pub mod Formats
-pub mod Leaves
-pub mod Combined
-pub mod Enums
+pub mod ItemLaws
+pub mod TextLaws
+pub mod RecordLaws
+pub mod ListLaws
+pub mod OptionLaws
+pub mod EnumLaws
 pub mod ExprLaws
 pub mod DeclLaws
 pub mod PatternLaws
@@ -18,6 +21,8 @@ pub mod FormulaLaws
 pub mod ModuleLaws
 pub mod Theorems
 pub mod Views
+pub mod CaseViews
+pub mod ListViews
 pub mod Depth
 pub mod Refusals
 pub mod Examples

@@ -22,12 +22,14 @@ use Rattle.reading.specs.Expr.{readExpr}
 use Rattle.reading.specs.Formula.{readFormula}
 use Rattle.reading.specs.Module.{Ir, readProperty, readModule, readIr, encProperty, encModule, encIr, WithinProperty, WithinModule, WithinIr}
 use Rattle.reading.proofs.Formats.{Is, Laws, From, of, deeper, flat, by-bytes, item-sound}
-use Rattle.reading.proofs.Leaves.{number-laws, fields-blames}
-use Rattle.reading.proofs.Combined.{_also_, record-laws, list-laws, option-laws}
 use Rattle.reading.proofs.ExprLaws.{name-laws, name-solid, version-laws, version-solid}
 use Rattle.reading.proofs.DeclLaws.{enum-decl-laws, constructor-group-laws, var-decl-laws}
 use Rattle.reading.proofs.TransitionLaws.{on-error-laws, on-error-solid, transition-laws}
 use Rattle.reading.proofs.FormulaLaws.{formula-laws}
+use Rattle.reading.proofs.ItemLaws.{number-laws, fields-blames}
+use Rattle.reading.proofs.RecordLaws.{_also_, record-laws}
+use Rattle.reading.proofs.ListLaws.{list-laws}
+use Rattle.reading.proofs.OptionLaws.{option-laws}
 
 pub property-laws : Laws readProperty encProperty WithinProperty 1 (From (readFormula maxDepth))
 unfolding readProperty encProperty WithinProperty

@@ -8,10 +8,12 @@ use Rattle.reading.specs.Pattern.{PatternExpr, wildcard, bind, int, bool
 use Rattle.reading.specs.Pattern.{patternExprCases, readPatternExpr, readPatternField, patternVariantCases, readPatternVariant, readPattern}
 use Rattle.reading.specs.Pattern.{encPatternExpr, encPatternField, encPatternVariant, encPattern, WithinPatternExpr, WithinPatternField, WithinPatternVariant, WithinPattern}
 use Rattle.reading.proofs.Formats.{Laws, Never, of}
-use Rattle.reading.proofs.Leaves.{bool-laws}
-use Rattle.reading.proofs.Combined.{nothing-laws, _also_, record-laws, list-laws, option-laws, Solid, enum-solid}
-use Rattle.reading.proofs.Enums.{either, Rows, none, case, enum-laws}
 use Rattle.reading.proofs.ExprLaws.{u64, name-laws, name-solid, path-laws}
+use Rattle.reading.proofs.ItemLaws.{bool-laws}
+use Rattle.reading.proofs.RecordLaws.{nothing-laws, _also_, record-laws}
+use Rattle.reading.proofs.ListLaws.{list-laws}
+use Rattle.reading.proofs.OptionLaws.{option-laws, Solid, enum-solid}
+use Rattle.reading.proofs.EnumLaws.{either, Rows, none, case, enum-laws}
 
 abbrev pattern-exprs : Rows encPatternExpr WithinPatternExpr Never
 unfolding encPatternExpr WithinPatternExpr

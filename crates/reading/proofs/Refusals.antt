@@ -1,12 +1,13 @@
 -- Each answer to a document, and when it is given: what a refusal says is taken from the one place in the definition that gives it.
 use Prim.Native.Nat.{ℕ, _+_, _<_, _≤_}
-use mathlib.Core.Path.{_≡_, refl, sym, ap, subst}
+use mathlib.Core.Path.{_≡_, refl, sym, ap, _∙_, subst}
 use mathlib.Core.List.{List, [], _++_}
 use mathlib.Core.Logic.{_↔_, _⊎_, inl, inr}
 use native.Mathlib.Omega.{arith}
 use lib.ListN.{length, drop, length-append, length-drop}
+use lib.Dec.{eqb}
 use borrow.Author.Tests.{ltb-true, ltb-false, lt-ltb, le-ltb}
-use Rattle.reading.specs.Read.{Read, ok, refused}
+use Rattle.reading.specs.Read.{Read, ok, refused, pick}
 use Rattle.reading.specs.Limits.{maxDocument, maxDepth, maxVersion}
 use Rattle.reading.specs.Fault.{number}
 use Rattle.reading.specs.Item.{readIrVersion}
@@ -23,8 +24,8 @@ use Rattle.reading.proofs.At.{At, at-here}
 use Rattle.reading.proofs.HeadSound.{Bytes}
 use Rattle.reading.proofs.Blames.{Blames, Inner, torn, padded, misfiled, outsize, smudged, nested, blames-ok, blames-refused, blames-pick, blames-bind}
 use Rattle.reading.proofs.Items.{kind-head, head-ahead}
-use Rattle.reading.proofs.Leaves.{fields-kind}
 use Rattle.reading.proofs.ModuleLaws.{Nested, ir-sound, ir-complete, ir-blames}
+use Rattle.reading.proofs.ItemLaws.{fields-kind}
 
 -- the numbers of the table
 pub numbered : (f : Fault) → (1 ≤ number f) × (number f ≤ 9)
@@ -38,6 +39,34 @@ numbered OutsideAlphabet = (omega arith, omega arith)
 numbered TooDeep = (omega arith, omega arith)
 numbered Trailing = (omega arith, omega arith)
 numbered UnknownVersion = (omega arith, omega arith)
+
+named : ℕ → Fault
+named n =
+    pick (eqb n 1) TooLong
+    (pick (eqb n 2) Truncated
+    (pick (eqb n 3) NonCanonical
+    (pick (eqb n 4) Unexpected
+    (pick (eqb n 5) OutOfRange
+    (pick (eqb n 6) OutsideAlphabet
+    (pick (eqb n 7) TooDeep
+    (pick (eqb n 8) Trailing
+    UnknownVersion)))))))
+
+named-number : (f : Fault) → named (number f) ≡ f
+unfolding named number pick
+named-number TooLong = refl
+named-number Truncated = refl
+named-number NonCanonical = refl
+named-number Unexpected = refl
+named-number OutOfRange = refl
+named-number OutsideAlphabet = refl
+named-number TooDeep = refl
+named-number Trailing = refl
+named-number UnknownVersion = refl
+
+-- one number, one fault
+pub same-number : (f g : Fault) → number f ≡ number g → f ≡ g
+same-number f g e = sym (named-number f) ∙ ap named e ∙ named-number g
 
 -- a document is accepted, or refused with a number from 1 to 9
 pub answered : (s : List ℕ) → ((x : Ir) × (n : ℕ) × (readDocument s ≡ ok x n)) ⊎ ((f : Fault) × (p : ℕ) × (readDocument s ≡ refused f p) × (1 ≤ number f) × (number f ≤ 9))

@@ -7,10 +7,12 @@ use Rattle.reading.specs.Expr.{readExpr, encExpr}
 use Rattle.reading.specs.Transition.{readTopExpr, readOutputExpr, readAssignment, readOnError, readTransition}
 use Rattle.reading.specs.Transition.{encOutputExpr, encAssignment, encOnError, encTransition, WithinTopExpr, WithinOutputExpr, WithinAssignment, WithinOnError, WithinTransition}
 use Rattle.reading.proofs.Formats.{Laws, From, of, flat, by-bytes}
-use Rattle.reading.proofs.Leaves.{number-laws}
-use Rattle.reading.proofs.Combined.{_also_, record-laws, list-laws, option-laws, Solid, number-solid, record-solid}
 use Rattle.reading.proofs.ExprLaws.{u64, name-laws, name-solid, expr-laws, expr-solid}
 use Rattle.reading.proofs.PatternLaws.{pattern-laws}
+use Rattle.reading.proofs.ItemLaws.{number-laws}
+use Rattle.reading.proofs.RecordLaws.{_also_, record-laws}
+use Rattle.reading.proofs.ListLaws.{list-laws}
+use Rattle.reading.proofs.OptionLaws.{option-laws, Solid, number-solid, record-solid}
 
 pub top-expr-laws : Laws readTopExpr encExpr WithinTopExpr 1 (From (readExpr maxDepth))
 unfolding readTopExpr

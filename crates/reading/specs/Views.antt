@@ -22,8 +22,12 @@ use Rattle.reading.specs.Formula as formula
 use Rattle.reading.specs.Module.{Property, Module, Ir, readProperty, readModule}
 use Rattle.reading.specs.declared.item.Tag.{Tag}
 
--- a name: its bytes are a part of the document
-pub record NameAt (s : List ℕ) (at : ℕ) (w : Name) (n : ℕ) : Type 0 where
+-- the bytes from one place to another
+abbrev pub span : List ℕ → ℕ → ℕ → List ℕ
+span s at n = take (n - at) (drop at s)
+
+-- a string: its bytes are a part of the document
+pub record StringAt (s : List ℕ) (at : ℕ) (w : Name) (n : ℕ) : Type 0 where
   pub from : ℕ
   pub head : readKind 3 s at ≡ ok (length w) from
   pub part : take (length w) (drop from s) ≡ w

@@ -21,7 +21,7 @@ use Rattle.reading.proofs.HeadSound.{Bytes}
 use Rattle.reading.proofs.Blames.{Blames, Inner, blames-refused, blames-pick, blames-bind, blames-map, misfiled}
 use Rattle.reading.proofs.Items.{items-join, array-item, plain-item}
 use Rattle.reading.proofs.Formats.{Is, Laws, Format}
-use Rattle.reading.proofs.Leaves.{kind-sound, kind-complete, tag-kinds, tag-blames}
+use Rattle.reading.proofs.ItemLaws.{kind-sound, kind-complete, tag-kinds, tag-blames}
 
 -- one or the other
 unfoldable pub either : Bool → Type 0 → Type 0 → Type 0
