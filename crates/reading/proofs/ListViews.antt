@@ -83,19 +83,22 @@ module _ {A : Type 0} (F : Reader A) (s : List ℕ) where
   unfolding entries
   first-entry c k = gives-bind _ _ _ λ a m q. gives-map (First c k) _ _ λ ys n w. (a, m, ys, q, w, refl)
 
+  first-turn : {k i n : ℕ} {xs : List A} → First (length xs - (i + 1)) k (drop i xs) n → Turn F s k i xs n
+  first-turn {k} {i} {n} {xs} (y, m, ys, e, r, q) =
+      let t : ys ≡ drop (i + 1) xs = drop-tail xs i q ∙ ap (λ (z : ℕ). drop z xs) (sym (add-one i)) in
+      record {
+        entry = y;
+        end = m;
+        split = sym q ∙ ap (λ (zs : List A). y ∷ zs) t;
+        here = e;
+        next = record { entries-are = r ∙ ap (λ (zs : List A). ok zs n) t };
+      }
+
   -- the entry whose turn it is
   pub turn : {k i n : ℕ} {xs : List A} → i < length xs → Rest F s k i xs n → Turn F s k i xs n
   turn {k} {i} {n} {xs} h g =
       let q : length xs - i ≡ suc (length xs - (i + 1)) = omega arith in
-      let o = first-entry (length xs - (i + 1)) k (drop i xs) n (ap (λ (c : ℕ). entries c F s k) (sym q) ∙ g .entries-are) in
-      let t : o .2 ≡ drop (i + 1) xs = drop-tail xs i (o .5) ∙ ap (λ (z : ℕ). drop z xs) (sym (add-one i)) in
-      record {
-        entry = o .0;
-        end = o .1;
-        split = sym (o .5) ∙ ap (λ (ys : List A). o .0 ∷ ys) t;
-        here = o .3;
-        next = record { entries-are = o .4 ∙ ap (λ (ys : List A). ok ys n) t };
-      }
+      first-turn (first-entry (length xs - (i + 1)) k (drop i xs) n (ap (λ (c : ℕ). entries c F s k) (sym q) ∙ g .entries-are))
 
   -- an option
   pub option-at : (at : ℕ) → Gives (OptionAt F s at) (optional F s at)
