@@ -1,4 +1,4 @@
--- What holds of whatever a reader accepts; and that a head ends within the document.
+-- What holds of whatever a reader accepts; and where a head ends.
 use Prim.Native.Nat.{ℕ, _+_, _-_, _<_, _≤_}
 use mathlib.Core.Path.{_≡_, refl, subst}
 use mathlib.Core.List.{List}
@@ -42,34 +42,38 @@ module _ {A B : Type 0} (P : B → ℕ → Type 0) where
   gives-map g (ok a n) h = gives-ok P (g a) n (h a n refl)
   gives-map g (refused f p) h = gives-refused P f p
 
-abbrev Ends : {A : Type 0} → List ℕ → A → ℕ → Type 0
-Ends s a n = n ≤ length s
+-- a head takes a byte at least, and ends within the document
+abbrev Spans : {A : Type 0} → List ℕ → ℕ → A → ℕ → Type 0
+Spans s at a n = (at < n) × (n ≤ length s)
 
 module _ (s : List ℕ) (at : ℕ) where
-  long-fits : (major : ℕ) (be : List ℕ → ℕ → ℕ) (width least : ℕ) → at < length s → Gives (Ends s) (longHead major be width least s at)
+  long-spans : (major : ℕ) (be : List ℕ → ℕ → ℕ) (width least : ℕ) → at < length s → Gives (Spans s at) (longHead major be width least s at)
   unfolding longHead settled
-  long-fits major be width least h =
-      gives-pick (Ends s) _ _ _ (λ e. gives-refused (Ends s) _ _) λ e.
-      gives-pick (Ends s) _ _ _ (λ e. gives-refused (Ends s) _ _) λ _.
-      let k : at + 1 + width ≤ length s = omega (arith, ltb-false (length s - at - 1) width e) in gives-ok (Ends s) _ _ k
+  long-spans major be width least h =
+      gives-pick (Spans s at) _ _ _ (λ e. gives-refused (Spans s at) _ _) λ e.
+      gives-pick (Spans s at) _ _ _ (λ e. gives-refused (Spans s at) _ _) λ _.
+      let k : at + 1 + width ≤ length s = omega (arith, ltb-false (length s - at - 1) width e) in gives-ok (Spans s at) _ _ (omega arith, k)
 
-  pub head-fits : Gives (Ends s) (readHead s at)
+  pub head-spans : Gives (Spans s at) (readHead s at)
   unfolding readHead headWith wideHead simple
-  head-fits =
-      gives-pick (Ends s) _ _ _ (λ e. gives-refused (Ends s) _ _) λ e.
+  head-spans =
+      gives-pick (Spans s at) _ _ _ (λ e. gives-refused (Spans s at) _ _) λ e.
       let h : at < length s = leb-false (length s) at e in
-      let k : at + 1 ≤ length s = omega arith in
-      gives-pick (Ends s) _ _ _ (λ e. gives-refused (Ends s) _ _) λ _.
-      gives-pick (Ends s) _ _ _ (λ _.
-        gives-pick (Ends s) _ _ _ (λ e. gives-refused (Ends s) _ _) λ _.
-        gives-pick (Ends s) _ _ _ (λ e. gives-refused (Ends s) _ _) λ _. gives-ok (Ends s) _ _ k) λ _.
-      gives-pick (Ends s) _ _ _ (λ _. gives-ok (Ends s) _ _ k) λ _.
-      gives-pick (Ends s) _ _ _ (λ _. long-fits _ _ _ _ h) λ _.
-      gives-pick (Ends s) _ _ _ (λ _. long-fits _ _ _ _ h) λ _.
-      gives-pick (Ends s) _ _ _ (λ _. long-fits _ _ _ _ h) λ _. long-fits _ _ _ _ h
+      let k : (at < at + 1) × (at + 1 ≤ length s) = omega arith in
+      gives-pick (Spans s at) _ _ _ (λ e. gives-refused (Spans s at) _ _) λ _.
+      gives-pick (Spans s at) _ _ _ (λ _.
+        gives-pick (Spans s at) _ _ _ (λ e. gives-refused (Spans s at) _ _) λ _.
+        gives-pick (Spans s at) _ _ _ (λ e. gives-refused (Spans s at) _ _) λ _. gives-ok (Spans s at) _ _ k) λ _.
+      gives-pick (Spans s at) _ _ _ (λ _. gives-ok (Spans s at) _ _ k) λ _.
+      gives-pick (Spans s at) _ _ _ (λ _. long-spans _ _ _ _ h) λ _.
+      gives-pick (Spans s at) _ _ _ (λ _. long-spans _ _ _ _ h) λ _.
+      gives-pick (Spans s at) _ _ _ (λ _. long-spans _ _ _ _ h) λ _. long-spans _ _ _ _ h
 
-  pub kind-fits : (due : ℕ) → Gives (Ends s) (readKind due s at)
+  pub head-fits : Gives (λ _ n. n ≤ length s) (readHead s at)
+  head-fits h n e = head-spans h n e .1
+
+  pub kind-fits : (due : ℕ) → Gives (λ _ n. n ≤ length s) (readKind due s at)
   unfolding readKind
   kind-fits due =
-      gives-bind (Ends s) _ _ λ a n e.
-      gives-pick (Ends s) _ _ _ (λ _. gives-ok (Ends s) _ _ (head-fits a n e)) (λ _. gives-refused (Ends s) _ _)
+      gives-bind (λ _ n. n ≤ length s) _ _ λ a n e.
+      gives-pick (λ _ n. n ≤ length s) _ _ _ (λ _. gives-ok (λ _ n. n ≤ length s) _ _ (head-fits a n e)) (λ _. gives-refused (λ _ n. n ≤ length s) _ _)

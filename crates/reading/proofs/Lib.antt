@@ -26,3 +26,11 @@ pub mod ListViews
 pub mod Depth
 pub mod Refusals
 pub mod Examples
+pub mod Answers
+pub mod Strings
+pub mod Threads
+pub mod Levels
+pub mod Arms
+pub mod Whole
+pub mod Skips
+pub mod Cycle

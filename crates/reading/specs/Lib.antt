@@ -18,3 +18,4 @@ pub mod Link
 pub mod Items
 pub mod Views
 pub mod Refusals
+pub mod Skip

@@ -36,14 +36,14 @@ impl VarDecl {
 }
 
 impl Step {
-    pub fn enum_decl(self, doc: &[u8]) -> Step
+    pub(crate) fn enum_decl(self, doc: &[u8]) -> Step
         ensures { λ r. ⌜ r ≡ onward (now (doc .entry)) self readEnumDecl ⌝ }
         ensures fields { λ _. do ⌜ (← ⟦EnumDecl::FIELDS⟧ .entry) ≡ 2 ⌝ }
     {
         self.fields(doc, EnumDecl::FIELDS).name(doc).names(doc, limits::LIST)
     }
 
-    pub fn enum_decls(self, doc: &[u8]) -> Step
+    pub(crate) fn enum_decls(self, doc: &[u8]) -> Step
         ensures { λ r. ⌜ r ≡ onward (now (doc .entry)) self (listOf maxList readEnumDecl) ⌝ }
     {
         let counted = self.count(doc, limits::LIST);
@@ -57,7 +57,7 @@ impl Step {
         r
     }
 
-    pub fn ty(self, doc: &[u8]) -> Step
+    pub(crate) fn ty(self, doc: &[u8]) -> Step
         ensures { λ r. ⌜ r ≡ onward (now (doc .entry)) self readTy ⌝ }
     {
         let t = self.tag(doc);
@@ -67,14 +67,14 @@ impl Step {
         }
     }
 
-    pub fn field_decl(self, doc: &[u8]) -> Step
+    pub(crate) fn field_decl(self, doc: &[u8]) -> Step
         ensures { λ r. ⌜ r ≡ onward (now (doc .entry)) self readFieldDecl ⌝ }
         ensures fields { λ _. do ⌜ (← ⟦FieldDecl::FIELDS⟧ .entry) ≡ 2 ⌝ }
     {
         self.fields(doc, FieldDecl::FIELDS).name(doc).ty(doc)
     }
 
-    pub fn field_decls(self, doc: &[u8]) -> Step
+    pub(crate) fn field_decls(self, doc: &[u8]) -> Step
         ensures { λ r. ⌜ r ≡ onward (now (doc .entry)) self (listOf maxList readFieldDecl) ⌝ }
     {
         let counted = self.count(doc, limits::LIST);
@@ -88,7 +88,7 @@ impl Step {
         r
     }
 
-    pub fn constructor_variant(self, doc: &[u8]) -> Step
+    pub(crate) fn constructor_variant(self, doc: &[u8]) -> Step
         ensures { λ r. ⌜ r ≡ onward (now (doc .entry)) self readConstructorVariant ⌝ }
     {
         let t = self.tag(doc);
@@ -98,7 +98,7 @@ impl Step {
         }
     }
 
-    pub fn constructor_variants(self, doc: &[u8]) -> Step
+    pub(crate) fn constructor_variants(self, doc: &[u8]) -> Step
         ensures { λ r. ⌜ r ≡ onward (now (doc .entry)) self (listOf maxList readConstructorVariant) ⌝ }
     {
         let counted = self.count(doc, limits::LIST);
@@ -112,14 +112,14 @@ impl Step {
         r
     }
 
-    pub fn constructor_group(self, doc: &[u8]) -> Step
+    pub(crate) fn constructor_group(self, doc: &[u8]) -> Step
         ensures { λ r. ⌜ r ≡ onward (now (doc .entry)) self readConstructorGroup ⌝ }
         ensures fields { λ _. do ⌜ (← ⟦ConstructorGroup::FIELDS⟧ .entry) ≡ 2 ⌝ }
     {
         self.fields(doc, ConstructorGroup::FIELDS).name(doc).constructor_variants(doc)
     }
 
-    pub fn constructor_groups(self, doc: &[u8]) -> Step
+    pub(crate) fn constructor_groups(self, doc: &[u8]) -> Step
         ensures { λ r. ⌜ r ≡ onward (now (doc .entry)) self (listOf maxList readConstructorGroup) ⌝ }
     {
         let counted = self.count(doc, limits::LIST);
@@ -133,14 +133,14 @@ impl Step {
         r
     }
 
-    pub fn var_decl(self, doc: &[u8]) -> Step
+    pub(crate) fn var_decl(self, doc: &[u8]) -> Step
         ensures { λ r. ⌜ r ≡ onward (now (doc .entry)) self readVarDecl ⌝ }
         ensures fields { λ _. do ⌜ (← ⟦VarDecl::FIELDS⟧ .entry) ≡ 3 ⌝ }
     {
         self.fields(doc, VarDecl::FIELDS).name(doc).ty(doc).top_expr(doc)
     }
 
-    pub fn var_decls(self, doc: &[u8]) -> Step
+    pub(crate) fn var_decls(self, doc: &[u8]) -> Step
         ensures { λ r. ⌜ r ≡ onward (now (doc .entry)) self (listOf maxList readVarDecl) ⌝ }
     {
         let counted = self.count(doc, limits::LIST);
@@ -157,7 +157,7 @@ impl Step {
 
 impl Cursor {
     // The fields of a type's case.
-    pub fn ty_case(self, doc: &[u8], tag: Tag) -> Step
+    pub(crate) fn ty_case(self, doc: &[u8], tag: Tag) -> Step
         ensures { λ r. ⌜ r ≡ stands (tyCases (now (doc .entry)) tag (self .at)) ⌝ }
     {
         let case = tag.case;
@@ -170,7 +170,7 @@ impl Cursor {
     }
 
     // The fields of the case of a group's variant.
-    pub fn constructor_variant_case(self, doc: &[u8], tag: Tag) -> Step
+    pub(crate) fn constructor_variant_case(self, doc: &[u8], tag: Tag) -> Step
         ensures { λ r. ⌜ r ≡ stands (constructorVariantCases (now (doc .entry)) tag (self .at)) ⌝ }
     {
         let case = tag.case;

@@ -14,14 +14,14 @@ ghost use Rattle.reading.specs.Transition.{readTopExpr};
 ghost use Rattle.reading.specs.Link.{stands, onward};
 
 impl Step {
-    pub fn path(self, doc: &[u8]) -> Step
+    pub(crate) fn path(self, doc: &[u8]) -> Step
         ensures { λ r. ⌜ r ≡ onward (now (doc .entry)) self readPath ⌝ }
     {
         self.names(doc, limits::PATH)
     }
 
     // An expression at whose start as many levels are left.
-    pub fn expr(self, doc: &[u8], left: u64) -> Step
+    pub(crate) fn expr(self, doc: &[u8], left: u64) -> Step
         ensures { λ r. ⌜ r ≡ onward (now (doc .entry)) self (readExpr left) ⌝ }
     {
         if left == 0 {
@@ -34,13 +34,13 @@ impl Step {
         }
     }
 
-    pub fn top_expr(self, doc: &[u8]) -> Step
+    pub(crate) fn top_expr(self, doc: &[u8]) -> Step
         ensures { λ r. ⌜ r ≡ onward (now (doc .entry)) self readTopExpr ⌝ }
     {
         self.expr(doc, limits::DEPTH)
     }
 
-    pub fn optional_expr(self, doc: &[u8]) -> Step
+    pub(crate) fn optional_expr(self, doc: &[u8]) -> Step
         ensures { λ r. ⌜ r ≡ onward (now (doc .entry)) self (optional readTopExpr) ⌝ }
     {
         let n = self.null(doc);
@@ -50,7 +50,7 @@ impl Step {
         }
     }
 
-    pub fn exprs(self, doc: &[u8]) -> Step
+    pub(crate) fn exprs(self, doc: &[u8]) -> Step
         ensures { λ r. ⌜ r ≡ onward (now (doc .entry)) self (listOf maxList readTopExpr) ⌝ }
     {
         let counted = self.count(doc, limits::LIST);
@@ -67,7 +67,7 @@ impl Step {
 
 impl Cursor {
     // The fields of an expression's case; its operands have as many levels left.
-    pub fn expr_case(self, doc: &[u8], tag: Tag, left: u64) -> Step
+    pub(crate) fn expr_case(self, doc: &[u8], tag: Tag, left: u64) -> Step
         ensures { λ r. ⌜ r ≡ stands (exprCases (readExpr left) (now (doc .entry)) tag (self .at)) ⌝ }
     {
         let case = tag.case;

@@ -16,7 +16,7 @@ ghost use Rattle.reading.specs.Link.{stands, onward};
 
 impl Step {
     // A formula at whose start as many levels are left.
-    pub fn formula(self, doc: &[u8], left: u64) -> Step
+    pub(crate) fn formula(self, doc: &[u8], left: u64) -> Step
         ensures { λ r. ⌜ r ≡ onward (now (doc .entry)) self (readFormula left) ⌝ }
     {
         if left == 0 {
@@ -63,7 +63,7 @@ impl Cursor {
     }
 
     // The fields of a formula's case.
-    pub fn formula_case(self, doc: &[u8], tag: Tag, left: u64) -> Step
+    pub(crate) fn formula_case(self, doc: &[u8], tag: Tag, left: u64) -> Step
         ensures { λ r. ⌜ r ≡ stands (formulaCases (readFormula left) (readExpr left) (now (doc .entry)) tag (self .at)) ⌝ }
     {
         let case = tag.case;

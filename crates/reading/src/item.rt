@@ -30,7 +30,7 @@ pub enum Tagged {
 
 impl Answer {
     // The number; 0 where it is refused.
-    pub fn value(self) -> u64
+    pub(crate) fn value(self) -> u64
         ensures { λ r. ⌜ r ≡ valueOf self ⌝ }
     {
         match self {
@@ -40,7 +40,7 @@ impl Answer {
     }
 
     // The answer without its number.
-    pub fn step(self) -> Step
+    pub(crate) fn step(self) -> Step
         ensures { λ r. ⌜ r ≡ stepOf self ⌝ }
     {
         match self {
@@ -85,7 +85,7 @@ impl Cursor {
     }
 
     // ir_version.
-    pub fn ir_version(self, doc: &[u8]) -> Answer
+    pub(crate) fn ir_version(self, doc: &[u8]) -> Answer
         ensures { λ r. ⌜ r ≡ answer (readIrVersion (now (doc .entry)) (self .at)) ⌝ }
     {
         let at = self.at;

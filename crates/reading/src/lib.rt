@@ -14,8 +14,10 @@ mod pattern;
 mod step;
 mod text;
 mod transition;
+mod walk;
 
 pub use cursor::Cursor;
+pub use cursor::head_at;
 pub use cursor::Head;
 pub use fault::Fault;
 pub use item::Answer;
@@ -23,6 +25,7 @@ pub use item::Tag;
 pub use item::Tagged;
 pub use step::Step;
 pub use text::Text;
+pub use walk::text_at;
 
 ghost use mathlib.Core.Path.{_≡_};
 ghost use Rattle.reading.specs.Document.{readDocument};

@@ -26,14 +26,14 @@ impl Ir {
 }
 
 impl Step {
-    pub fn property(self, doc: &[u8]) -> Step
+    pub(crate) fn property(self, doc: &[u8]) -> Step
         ensures { λ r. ⌜ r ≡ onward (now (doc .entry)) self readProperty ⌝ }
         ensures fields { λ _. do ⌜ (← ⟦Property::FIELDS⟧ .entry) ≡ 2 ⌝ }
     {
         self.fields(doc, Property::FIELDS).name(doc).formula(doc, limits::DEPTH)
     }
 
-    pub fn properties(self, doc: &[u8]) -> Step
+    pub(crate) fn properties(self, doc: &[u8]) -> Step
         ensures { λ r. ⌜ r ≡ onward (now (doc .entry)) self (listOf maxList readProperty) ⌝ }
     {
         let counted = self.count(doc, limits::LIST);
@@ -47,7 +47,7 @@ impl Step {
         r
     }
 
-    pub fn module(self, doc: &[u8]) -> Step
+    pub(crate) fn module(self, doc: &[u8]) -> Step
         ensures { λ r. ⌜ r ≡ onward (now (doc .entry)) self readModule ⌝ }
         ensures fields { λ _. do ⌜ (← ⟦Module::FIELDS⟧ .entry) ≡ 11 ⌝ }
     {
@@ -65,7 +65,7 @@ impl Step {
             .properties(doc)
     }
 
-    pub fn modules(self, doc: &[u8]) -> Step
+    pub(crate) fn modules(self, doc: &[u8]) -> Step
         ensures { λ r. ⌜ r ≡ onward (now (doc .entry)) self (listOf maxModules readModule) ⌝ }
     {
         let counted = self.count(doc, limits::MODULES);
@@ -79,7 +79,7 @@ impl Step {
         r
     }
 
-    pub fn ir(self, doc: &[u8]) -> Step
+    pub(crate) fn ir(self, doc: &[u8]) -> Step
         ensures { λ r. ⌜ r ≡ onward (now (doc .entry)) self readIr ⌝ }
         ensures fields { λ _. do ⌜ (← ⟦Ir::FIELDS⟧ .entry) ≡ 2 ⌝ }
     {

@@ -26,7 +26,7 @@ impl Pattern {
 }
 
 impl Step {
-    pub fn pattern_expr(self, doc: &[u8]) -> Step
+    pub(crate) fn pattern_expr(self, doc: &[u8]) -> Step
         ensures { λ r. ⌜ r ≡ onward (now (doc .entry)) self readPatternExpr ⌝ }
     {
         let t = self.tag(doc);
@@ -36,14 +36,14 @@ impl Step {
         }
     }
 
-    pub fn pattern_field(self, doc: &[u8]) -> Step
+    pub(crate) fn pattern_field(self, doc: &[u8]) -> Step
         ensures { λ r. ⌜ r ≡ onward (now (doc .entry)) self readPatternField ⌝ }
         ensures fields { λ _. do ⌜ (← ⟦PatternField::FIELDS⟧ .entry) ≡ 2 ⌝ }
     {
         self.fields(doc, PatternField::FIELDS).optional_name(doc).pattern_expr(doc)
     }
 
-    pub fn pattern_fields(self, doc: &[u8]) -> Step
+    pub(crate) fn pattern_fields(self, doc: &[u8]) -> Step
         ensures { λ r. ⌜ r ≡ onward (now (doc .entry)) self (listOf maxList readPatternField) ⌝ }
     {
         let counted = self.count(doc, limits::LIST);
@@ -57,7 +57,7 @@ impl Step {
         r
     }
 
-    pub fn pattern_variant(self, doc: &[u8]) -> Step
+    pub(crate) fn pattern_variant(self, doc: &[u8]) -> Step
         ensures { λ r. ⌜ r ≡ onward (now (doc .entry)) self readPatternVariant ⌝ }
     {
         let t = self.tag(doc);
@@ -67,7 +67,7 @@ impl Step {
         }
     }
 
-    pub fn optional_pattern_variant(self, doc: &[u8]) -> Step
+    pub(crate) fn optional_pattern_variant(self, doc: &[u8]) -> Step
         ensures { λ r. ⌜ r ≡ onward (now (doc .entry)) self (optional readPatternVariant) ⌝ }
     {
         let n = self.null(doc);
@@ -77,7 +77,7 @@ impl Step {
         }
     }
 
-    pub fn pattern(self, doc: &[u8]) -> Step
+    pub(crate) fn pattern(self, doc: &[u8]) -> Step
         ensures { λ r. ⌜ r ≡ onward (now (doc .entry)) self readPattern ⌝ }
         ensures fields { λ _. do ⌜ (← ⟦Pattern::FIELDS⟧ .entry) ≡ 2 ⌝ }
     {
@@ -87,7 +87,7 @@ impl Step {
 
 impl Cursor {
     // The fields of the case of a pattern expression.
-    pub fn pattern_expr_case(self, doc: &[u8], tag: Tag) -> Step
+    pub(crate) fn pattern_expr_case(self, doc: &[u8], tag: Tag) -> Step
         ensures { λ r. ⌜ r ≡ stands (patternExprCases (now (doc .entry)) tag (self .at)) ⌝ }
     {
         let case = tag.case;
@@ -102,7 +102,7 @@ impl Cursor {
     }
 
     // The fields of the case of a pattern's variant.
-    pub fn pattern_variant_case(self, doc: &[u8], tag: Tag) -> Step
+    pub(crate) fn pattern_variant_case(self, doc: &[u8], tag: Tag) -> Step
         ensures { λ r. ⌜ r ≡ stands (patternVariantCases (now (doc .entry)) tag (self .at)) ⌝ }
     {
         let case = tag.case;

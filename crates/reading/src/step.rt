@@ -27,7 +27,7 @@ pub enum Null {
 }
 
 impl Step {
-    pub fn number(self, doc: &[u8], limit: u64) -> Step
+    pub(crate) fn number(self, doc: &[u8], limit: u64) -> Step
         ensures { λ r. ⌜ r ≡ onward (now (doc .entry)) self (readNumber limit) ⌝ }
     {
         match self {
@@ -36,7 +36,7 @@ impl Step {
         }
     }
 
-    pub fn ir_version(self, doc: &[u8]) -> Step
+    pub(crate) fn ir_version(self, doc: &[u8]) -> Step
         ensures { λ r. ⌜ r ≡ onward (now (doc .entry)) self readIrVersion ⌝ }
     {
         match self {
@@ -45,7 +45,7 @@ impl Step {
         }
     }
 
-    pub fn case_number(self, doc: &[u8], cases: u64) -> Step
+    pub(crate) fn case_number(self, doc: &[u8], cases: u64) -> Step
         ensures { λ r. ⌜ r ≡ onward (now (doc .entry)) self (readCase cases) ⌝ }
     {
         match self {
@@ -54,7 +54,7 @@ impl Step {
         }
     }
 
-    pub fn boolean(self, doc: &[u8]) -> Step
+    pub(crate) fn boolean(self, doc: &[u8]) -> Step
         ensures { λ r. ⌜ r ≡ onward (now (doc .entry)) self readBool ⌝ }
     {
         match self {
@@ -63,7 +63,7 @@ impl Step {
         }
     }
 
-    pub fn name(self, doc: &[u8]) -> Step
+    pub(crate) fn name(self, doc: &[u8]) -> Step
         ensures { λ r. ⌜ r ≡ onward (now (doc .entry)) self readName ⌝ }
     {
         match self {
@@ -72,7 +72,7 @@ impl Step {
         }
     }
 
-    pub fn version(self, doc: &[u8]) -> Step
+    pub(crate) fn version(self, doc: &[u8]) -> Step
         ensures { λ r. ⌜ r ≡ onward (now (doc .entry)) self readVersion ⌝ }
     {
         match self {
@@ -81,7 +81,7 @@ impl Step {
         }
     }
 
-    pub fn fields(self, doc: &[u8], fields: u64) -> Step
+    pub(crate) fn fields(self, doc: &[u8], fields: u64) -> Step
         ensures { λ r. ⌜ r ≡ onward (now (doc .entry)) self (readFields fields) ⌝ }
     {
         match self {
@@ -91,7 +91,7 @@ impl Step {
     }
 
     // A list's length, with the cursor at its first entry.
-    pub fn count(self, doc: &[u8], limit: u64) -> Answer
+    pub(crate) fn count(self, doc: &[u8], limit: u64) -> Answer
         ensures { λ r. ⌜ r ≡ answerAfter (now (doc .entry)) self (readCount limit) ⌝ }
     {
         match self {
@@ -100,7 +100,7 @@ impl Step {
         }
     }
 
-    pub fn tag(self, doc: &[u8]) -> Tagged
+    pub(crate) fn tag(self, doc: &[u8]) -> Tagged
         ensures { λ r. ⌜ r ≡ taggedAfter (now (doc .entry)) self readTag ⌝ }
     {
         match self {
@@ -110,7 +110,7 @@ impl Step {
     }
 
     // An expression or formula for which no level is left.
-    pub fn too_deep(self) -> Step
+    pub(crate) fn too_deep(self) -> Step
         ensures { λ r. ⌜ r ≡ deep self ⌝ }
     {
         match self {
@@ -120,7 +120,7 @@ impl Step {
     }
 
     // Whether null stands here.
-    pub fn null(self, doc: &[u8]) -> Null
+    pub(crate) fn null(self, doc: &[u8]) -> Null
         ensures { λ r. ⌜ r ≡ nullAfter (now (doc .entry)) self ⌝ }
     {
         let Step::To(c) = self else {
@@ -136,7 +136,7 @@ impl Step {
         Null::Not
     }
 
-    pub fn optional_name(self, doc: &[u8]) -> Step
+    pub(crate) fn optional_name(self, doc: &[u8]) -> Step
         ensures { λ r. ⌜ r ≡ onward (now (doc .entry)) self (optional readName) ⌝ }
     {
         let n = self.null(doc);
@@ -146,7 +146,7 @@ impl Step {
         }
     }
 
-    pub fn optional_version(self, doc: &[u8]) -> Step
+    pub(crate) fn optional_version(self, doc: &[u8]) -> Step
         ensures { λ r. ⌜ r ≡ onward (now (doc .entry)) self (optional readVersion) ⌝ }
     {
         let n = self.null(doc);
@@ -156,7 +156,7 @@ impl Step {
         }
     }
 
-    pub fn optional_u32(self, doc: &[u8]) -> Step
+    pub(crate) fn optional_u32(self, doc: &[u8]) -> Step
         ensures { λ r. ⌜ r ≡ onward (now (doc .entry)) self (optional (readNumber maxU32)) ⌝ }
     {
         let n = self.null(doc);
@@ -167,7 +167,7 @@ impl Step {
     }
 
     // At most as many names.
-    pub fn names(self, doc: &[u8], limit: u64) -> Step
+    pub(crate) fn names(self, doc: &[u8], limit: u64) -> Step
         ensures { λ r. ⌜ r ≡ onward (now (doc .entry)) self (listOf limit readName) ⌝ }
     {
         let counted = self.count(doc, limit);
@@ -184,8 +184,8 @@ impl Step {
 
 impl Cursor {
     // After a case number, if the array has as many items as are due.
-    pub fn sized(self, tag: Tag, due: u64) -> Step
-        ensures { λ r. ⌜ r ≡ stands (sized tag due (ok tt (self .at))) ⌝ }
+    pub(crate) fn sized(self, tag: Tag, due: u64) -> Step
+        ensures { λ r. ⌜ r ≡ stands (sized tag due (ok (tt {0}) (self .at))) ⌝ }
     {
         if tag.count == due {
             return Step::To(self);

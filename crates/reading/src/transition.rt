@@ -33,14 +33,14 @@ impl Transition {
 }
 
 impl Step {
-    pub fn output_expr(self, doc: &[u8]) -> Step
+    pub(crate) fn output_expr(self, doc: &[u8]) -> Step
         ensures { λ r. ⌜ r ≡ onward (now (doc .entry)) self readOutputExpr ⌝ }
         ensures fields { λ _. do ⌜ (← ⟦OutputExpr::FIELDS⟧ .entry) ≡ 3 ⌝ }
     {
         self.fields(doc, OutputExpr::FIELDS).name(doc).optional_name(doc).exprs(doc)
     }
 
-    pub fn output_exprs(self, doc: &[u8]) -> Step
+    pub(crate) fn output_exprs(self, doc: &[u8]) -> Step
         ensures { λ r. ⌜ r ≡ onward (now (doc .entry)) self (listOf maxList readOutputExpr) ⌝ }
     {
         let counted = self.count(doc, limits::LIST);
@@ -54,14 +54,14 @@ impl Step {
         r
     }
 
-    pub fn assignment(self, doc: &[u8]) -> Step
+    pub(crate) fn assignment(self, doc: &[u8]) -> Step
         ensures { λ r. ⌜ r ≡ onward (now (doc .entry)) self readAssignment ⌝ }
         ensures fields { λ _. do ⌜ (← ⟦Assignment::FIELDS⟧ .entry) ≡ 2 ⌝ }
     {
         self.fields(doc, Assignment::FIELDS).name(doc).top_expr(doc)
     }
 
-    pub fn assignments(self, doc: &[u8]) -> Step
+    pub(crate) fn assignments(self, doc: &[u8]) -> Step
         ensures { λ r. ⌜ r ≡ onward (now (doc .entry)) self (listOf maxList readAssignment) ⌝ }
     {
         let counted = self.count(doc, limits::LIST);
@@ -75,14 +75,14 @@ impl Step {
         r
     }
 
-    pub fn on_error(self, doc: &[u8]) -> Step
+    pub(crate) fn on_error(self, doc: &[u8]) -> Step
         ensures { λ r. ⌜ r ≡ onward (now (doc .entry)) self readOnError ⌝ }
         ensures fields { λ _. do ⌜ (← ⟦OnError::FIELDS⟧ .entry) ≡ 2 ⌝ }
     {
         self.fields(doc, OnError::FIELDS).name(doc).output_exprs(doc)
     }
 
-    pub fn optional_on_error(self, doc: &[u8]) -> Step
+    pub(crate) fn optional_on_error(self, doc: &[u8]) -> Step
         ensures { λ r. ⌜ r ≡ onward (now (doc .entry)) self (optional readOnError) ⌝ }
     {
         let n = self.null(doc);
@@ -92,7 +92,7 @@ impl Step {
         }
     }
 
-    pub fn transition(self, doc: &[u8]) -> Step
+    pub(crate) fn transition(self, doc: &[u8]) -> Step
         ensures { λ r. ⌜ r ≡ onward (now (doc .entry)) self readTransition ⌝ }
         ensures fields { λ _. do ⌜ (← ⟦Transition::FIELDS⟧ .entry) ≡ 8 ⌝ }
     {
@@ -107,7 +107,7 @@ impl Step {
             .optional_u32(doc)
     }
 
-    pub fn transitions(self, doc: &[u8]) -> Step
+    pub(crate) fn transitions(self, doc: &[u8]) -> Step
         ensures { λ r. ⌜ r ≡ onward (now (doc .entry)) self (listOf maxList readTransition) ⌝ }
     {
         let counted = self.count(doc, limits::LIST);

@@ -1,0 +1,22 @@
+use borrow.Author.Needs.{needs}
+use Rattle.reading.proofs.cursor.Cursor.ir_version.Statement.{statement}
+use Rattle.reading.proofs.cursor.Cursor.ir_version.Tie as tie
+use Rattle.reading.proofs.Answers.{tests}
+use Rattle.reading.specs.Item.{readKind, readIrVersion}
+use Rattle.reading.proofs.Answers.{num, out, hd, hd-out}
+use Rattle.reading.specs.Link.{answer, headOf}
+
+returns : tie.Need-returns
+unfolding readIrVersion
+returns c = search (tests, out _ (c .before .before .kind .ensures) (c .enum-told .given .1))
+
+returns-2 : tie.Need-returns-2
+unfolding readIrVersion
+returns-2 c = search (tests, num _ (c .before .before .before .before .kind .ensures) (c .before .before .r .given .1))
+
+returns-3 : tie.Need-returns-3
+unfolding readIrVersion
+returns-3 c = search (tests, num _ (c .before .before .before .before .kind .ensures) (c .before .before .r .given .1))
+
+pub ir-version-spec : {M : Type 1} → statement M
+ir-version-spec = tie.close (tie.spec (λ c κs. search needs) (λ c. search needs) (λ c. search needs) returns returns-2 returns-3)

@@ -1,0 +1,22 @@
+use borrow.Author.Needs.{needs}
+use Rattle.reading.proofs.cursor.Cursor.number.Statement.{statement}
+use Rattle.reading.proofs.cursor.Cursor.number.Tie as tie
+use Rattle.reading.proofs.Answers.{tests}
+use Rattle.reading.specs.Item.{readKind, readNumber}
+use Rattle.reading.proofs.Answers.{num, out, hd, hd-out}
+use Rattle.reading.specs.Link.{answer, headOf}
+
+returns : tie.Need-returns
+unfolding readNumber
+returns c = search (tests, out _ (c .before .before .kind .ensures) (c .enum-told .given .1))
+
+returns-2 : tie.Need-returns-2
+unfolding readNumber
+returns-2 c = search (tests, num _ (c .before .before .before .before .kind .ensures) (c .before .before .r .given .1))
+
+returns-3 : tie.Need-returns-3
+unfolding readNumber
+returns-3 c = search (tests, num _ (c .before .before .before .before .kind .ensures) (c .before .before .r .given .1))
+
+pub number-spec : {M : Type 1} → statement M
+number-spec = tie.close (tie.spec (λ c κs. search needs) (λ c. search needs) (λ c. search needs) returns returns-2 returns-3)

@@ -1,0 +1,8 @@
+-- The count, then the field.
+use borrow.Author.Needs.{needs}
+use Rattle.reading.proofs.Threads.{sized-read}
+use Rattle.reading.proofs.cursor.Cursor.one_pattern.Statement.{statement}
+use Rattle.reading.proofs.cursor.Cursor.one_pattern.Tie as tie
+
+pub one-pattern-spec : {M : Type 1} → statement M
+one-pattern-spec = tie.close (tie.spec (λ c κs. search needs) (λ c κs. search needs) (λ c. sized-read _ _ _ _ _ (c .before .sized .ensures) (c .pattern .ensures .0)))

@@ -1,0 +1,12 @@
+use borrow.Author.Needs.{needs}
+use Rattle.reading.proofs.cursor.four.Statement.{statement}
+use Rattle.reading.proofs.cursor.four.Tie as tie
+use native.Mathlib.Omega.{arith}
+use Rattle.reading.specs.Head.{readHead, headWith, be2, be4, be8}
+
+returns : tie.Need-returns
+unfolding be4
+returns c = omega arith
+
+pub four-spec : {M : Type 1} → statement M
+four-spec = tie.close (tie.spec (λ c κs. search needs) (λ c. search needs) (λ c. search needs) (λ c κs. search needs) (λ c. search needs) returns)

@@ -1,0 +1,14 @@
+-- The head, then each field.
+use borrow.Author.Needs.{needs}
+use mathlib.Core.Path.{refl}
+use Rattle.reading.specs.Decl.{readFieldDecl}
+use Rattle.reading.proofs.Threads.{record-read, then-read}
+use Rattle.reading.proofs.step.Step.field_decl.Statement.{statement}
+use Rattle.reading.proofs.step.Step.field_decl.Tie as tie
+
+returns : tie.Need-returns
+unfolding readFieldDecl
+returns c = (search (record-read, then-read), refl)
+
+pub field-decl-spec : {M : Type 1} → statement M
+field-decl-spec = tie.close (tie.spec (λ c κs. search needs) (λ c κs. search needs) (λ c κs. search needs) returns)

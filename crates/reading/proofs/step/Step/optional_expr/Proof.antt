@@ -1,0 +1,8 @@
+-- Null, or an item.
+use borrow.Author.Needs.{needs}
+use Rattle.reading.proofs.Threads.{option-null, option-some}
+use Rattle.reading.proofs.step.Step.optional_expr.Statement.{statement}
+use Rattle.reading.proofs.step.Step.optional_expr.Tie as tie
+
+pub optional-expr-spec : {M : Type 1} → statement M
+optional-expr-spec = tie.close (tie.spec (λ c κs. search needs) (λ c. search needs) (λ c. search needs) (λ c κs. search needs) (λ c. search option-null) (λ c. search option-some))

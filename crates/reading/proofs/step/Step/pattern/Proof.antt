@@ -1,0 +1,14 @@
+-- The head, then each field.
+use borrow.Author.Needs.{needs}
+use mathlib.Core.Path.{refl}
+use Rattle.reading.specs.Pattern.{readPattern}
+use Rattle.reading.proofs.Threads.{record-read, then-read}
+use Rattle.reading.proofs.step.Step.pattern.Statement.{statement}
+use Rattle.reading.proofs.step.Step.pattern.Tie as tie
+
+returns : tie.Need-returns
+unfolding readPattern
+returns c = (search (record-read, then-read), refl)
+
+pub pattern-spec : {M : Type 1} → statement M
+pattern-spec = tie.close (tie.spec (λ c κs. search needs) (λ c κs. search needs) (λ c κs. search needs) returns)

@@ -1,0 +1,118 @@
+//! The original Rust checker behind a decoder for the byte form, and what is
+//! compared with it.
+
+mod bench;
+mod compare;
+mod decode;
+mod encode;
+mod generate;
+mod json;
+mod offer;
+mod original;
+mod samples;
+#[cfg(test)]
+mod tests;
+mod vectors;
+
+/// The original sources, compiled where they stand.
+#[allow(dead_code, clippy::all)]
+mod lang {
+    include!(concat!(env!("OUT_DIR"), "/lang.rs"));
+}
+
+use std::fs;
+use std::path::Path;
+use std::process::ExitCode;
+
+const USAGE: &str = "usage:
+  oracle vectors DIR        write DIR/vectors.bin and print its counts
+  oracle same DIR           fail unless DIR/vectors.bin is what `vectors` writes
+  oracle compare [N [SEED]] the library beside the decoder on N documents
+  oracle sweep              the same on every small change of small documents
+  oracle bench              time of the library beside the decoder
+  oracle write DIR          write the benchmark documents";
+
+const NO_LIBRARY: &str = "this build has no library: \
+build with `--features offer`; OFFER_LIB names the folder of liboffer.a";
+
+fn main() -> ExitCode {
+    let args: Vec<String> = std::env::args().skip(1).collect();
+    let args: Vec<&str> = args.iter().map(String::as_str).collect();
+    let done = match args[..] {
+        ["vectors", dir] => write_vectors(Path::new(dir)),
+        ["same", dir] => same_vectors(Path::new(dir)),
+        ["compare"] => compare(200_000, 1),
+        ["compare", count] => number(count).and_then(|n| compare(n, 1)),
+        ["compare", count, seed] => number(count).and_then(|n| compare(n, number(seed)?)),
+        ["sweep"] => sweep(),
+        ["bench"] => library().map(bench::bench),
+        ["write", dir] => write_samples(Path::new(dir)),
+        _ => Err(USAGE.to_string()),
+    };
+    match done {
+        Ok(()) => ExitCode::SUCCESS,
+        Err(why) => {
+            eprintln!("{why}");
+            ExitCode::FAILURE
+        }
+    }
+}
+
+type Done = Result<(), String>;
+
+fn number<T: std::str::FromStr>(digits: &str) -> Result<T, String> {
+    digits.parse().map_err(|_| USAGE.to_string())
+}
+
+fn library() -> Result<offer::Reader, String> {
+    offer::READER.ok_or(NO_LIBRARY.to_string())
+}
+
+fn agreed(all: bool) -> Done {
+    match all {
+        true => Ok(()),
+        false => Err("the answers differ".to_string()),
+    }
+}
+
+fn compare(count: usize, seed: u64) -> Done {
+    agreed(compare::compare(library()?, count, seed))
+}
+
+fn sweep() -> Done {
+    agreed(compare::sweep(library()?))
+}
+
+fn write_vectors(dir: &Path) -> Done {
+    let all = vectors::vectors();
+    write_file(dir, vectors::FILE, &vectors::file(&all))?;
+    vectors::report(&all);
+    Ok(())
+}
+
+fn same_vectors(dir: &Path) -> Done {
+    let path = dir.join(vectors::FILE);
+    let kept = fs::read(&path).map_err(|e| format!("{}: {e}", path.display()))?;
+    let all = vectors::vectors();
+    if kept != vectors::file(&all) {
+        return Err(format!("{} is not what is made now", path.display()));
+    }
+    println!("{} vectors, {} bytes, the same", all.len(), kept.len());
+    Ok(())
+}
+
+fn write_samples(dir: &Path) -> Done {
+    for sample in samples::samples() {
+        write_file(dir, &format!("{}.cbor", sample.name), &sample.bytes)?;
+    }
+    Ok(())
+}
+
+fn write_file(dir: &Path, name: &str, bytes: &[u8]) -> Done {
+    let path = dir.join(name);
+    fs::create_dir_all(dir)
+        .and_then(|()| fs::write(&path, bytes))
+        .map_err(|e| format!("{}: {e}", path.display()))?;
+    println!("{} ({} bytes)", path.display(), bytes.len());
+    Ok(())
+}

@@ -1,0 +1,201 @@
+//! The three benchmark documents: sound state machines without errors.
+
+use crate::encode::encode;
+use crate::generate::build::*;
+use crate::lang::ir::*;
+
+/// A benchmark document under its file name.
+pub struct Sample {
+    pub name: &'static str,
+    pub bytes: Vec<u8>,
+}
+
+pub fn samples() -> Vec<Sample> {
+    let sample = |name, ir: Ir| Sample {
+        name,
+        bytes: encode(&ir),
+    };
+    vec![
+        sample("small", ir(vec![mixed("Link", 14, 3)])),
+        sample(
+            "mixed",
+            ir(["North", "South", "East", "West"]
+                .map(|name| mixed(name, 124, 20))
+                .to_vec()),
+        ),
+        sample("many", many()),
+    ]
+}
+
+const STATES: [&str; 6] = ["Idle", "Opening", "Open", "Busy", "Closing", "Failed"];
+
+/// A module with so many transitions and properties, of every kind of part.
+fn mixed(name: &str, transitions: usize, properties: usize) -> Module {
+    Module {
+        version: Some(text("1.0")),
+        on_error: Some(OnError {
+            next_state: text("Failed"),
+            emits: vec![emit("Out", Some("log"), vec![path(&["retries"])])],
+        }),
+        enums: vec![
+            enum_decl("State", &STATES),
+            enum_decl("Mode", &["Plain", "Secure", "Quiet"]),
+        ],
+        initial_state: Some(text("Idle")),
+        events: vec![events(), group("Timer", vec![unit("tick")])],
+        outputs: vec![group(
+            "Out",
+            vec![
+                unit("ack"),
+                with_fields("log", &[("count", bit(8))]),
+                with_fields("send", &[("length", bit(16)), ("last", Type::Bool)]),
+            ],
+        )],
+        vars: vec![
+            var("retries", bit(8), int(0)),
+            var("limit", bit(16), int(1_000)),
+            var("armed", Type::Bool, boolean(false)),
+            var("mode", enum_type("Mode"), path(&["Mode", "Plain"])),
+        ],
+        transitions: (0..transitions).map(mixed_step).collect(),
+        properties: (0..properties).map(mixed_property).collect(),
+        assumptions: vec![property(
+            "ticks",
+            over(
+                2,
+                0,
+                over(
+                    4,
+                    50,
+                    Formula::InputIs {
+                        pattern: event("Timer", None),
+                    },
+                ),
+            ),
+        )],
+        ..bare(name)
+    }
+}
+
+fn events() -> ConstructorGroup {
+    let data = [
+        ("length", bit(16)),
+        ("urgent", Type::Bool),
+        ("mode", enum_type("Mode")),
+    ];
+    group(
+        "Net",
+        vec![unit("open"), unit("close"), with_fields("data", &data)],
+    )
+}
+
+/// Three kinds of transition in turn; priorities keep them apart.
+fn mixed_step(place: usize) -> Transition {
+    let state = STATES[place % STATES.len()];
+    let next = STATES[(place * 5 + 1) % STATES.len()];
+    let plain = Transition {
+        id: place,
+        priority: Some(place as u32),
+        ..step(state, "Net", next)
+    };
+    match place % 3 {
+        0 => Transition {
+            pattern: event("Net", Some(unit_pattern("open"))),
+            guard: Some(may_retry(place)),
+            emits: vec![emit("Out", Some("ack"), Vec::new())],
+            assignments: vec![set(
+                "retries",
+                binary(BinOp::Plus, path(&["retries"]), int(1)),
+            )],
+            ..plain
+        },
+        1 => Transition {
+            pattern: event("Net", Some(field_pattern("data", data_pattern(place)))),
+            guard: Some(fits()),
+            emits: vec![
+                emit("Out", Some("send"), vec![path(&["n"]), path(&["armed"])]),
+                emit("Out", Some("log"), vec![path(&["retries"])]),
+            ],
+            assignments: vec![
+                set(
+                    "limit",
+                    binary(BinOp::Minus, path(&["limit"]), path(&["n"])),
+                ),
+                set("armed", unary(UnaryOp::Not, path(&["armed"]))),
+            ],
+            ..plain
+        },
+        _ => Transition {
+            pattern: event("Timer", None),
+            ..plain
+        },
+    }
+}
+
+fn may_retry(place: usize) -> Expr {
+    let few = binary(BinOp::Lt, path(&["retries"]), int(place as u64 % 256));
+    binary(BinOp::LogicAnd, few, path(&["armed"]))
+}
+
+fn fits() -> Expr {
+    let room = binary(BinOp::Ge, path(&["limit"]), path(&["n"]));
+    let quiet = binary(BinOp::Eq, path(&["mode"]), path(&["Mode", "Quiet"]));
+    binary(BinOp::LogicOr, room, unary(UnaryOp::Not, quiet))
+}
+
+fn data_pattern(place: usize) -> Vec<PatternField> {
+    let secure = PatternExpr::EnumVariant {
+        path: texts(&["Mode", "Secure"]),
+    };
+    let second = match place % 2 {
+        0 => PatternExpr::Bool { value: true },
+        _ => PatternExpr::Wildcard,
+    };
+    vec![
+        pattern(Some("n"), PatternExpr::Bind { name: text("n") }),
+        pattern(None, second),
+        pattern(None, secure),
+    ]
+}
+
+fn mixed_property(place: usize) -> Property {
+    let state = STATES[place % STATES.len()];
+    let there = holds(binary(BinOp::Eq, path(&["state"]), path(&["State", state])));
+    let opened = Formula::InputIs {
+        pattern: event("Net", Some(unit_pattern("open"))),
+    };
+    let sent = Formula::OutputHas {
+        pattern: output("Out", Some(unit_pattern("ack"))),
+    };
+    let inner = match place % 3 {
+        0 => join(2, join(0, there, opened), over(1, 0, sent)),
+        1 => join(2, there, over(4, place as u64, sent)),
+        _ => join(3, over(0, 0, there), join(1, opened, sent)),
+    };
+    property(&format!("rule_{place}"), over(2, 0, inner))
+}
+
+/// 16 modules of 255 of the shortest transitions: 26 states of one letter,
+/// ten groups, each pair of state and group once.
+fn many() -> Ir {
+    let letters: Vec<String> = ('A'..='Z').map(String::from).collect();
+    let groups: Vec<String> = ('a'..='j').map(String::from).collect();
+    let states: Vec<&str> = letters.iter().map(String::as_str).collect();
+    let module = |number: usize| Module {
+        enums: vec![enum_decl("State", &states)],
+        initial_state: Some(text("A")),
+        events: groups.iter().map(|g| group(g, Vec::new())).collect(),
+        transitions: (0..255)
+            .map(|place| Transition {
+                id: place,
+                ..step(
+                    states[place % 26],
+                    &groups[place / 26],
+                    states[(place + 1) % 26],
+                )
+            })
+            .collect(),
+        ..bare(states[number])
+    };
+    ir((0..16).map(module).collect())
+}
