@@ -1,4 +1,4 @@
--- Items one after another: how they join, and that a count of items from a place ends in one place only.
+-- Items one after another: how they join, that so many of them from a place end in one place only, and which items are one.
 use Prim.Native.Nat.{ℕ, suc, _+_, _-_, _<_, _≤_}
 use mathlib.Core.Path.{_≡_, refl, ap, _∙_, subst}
 use mathlib.Core.List.{List}
@@ -6,43 +6,39 @@ use mathlib.Core.Bool.{false}
 use native.Mathlib.Omega.{arith}
 use lib.ListN.{length}
 use lib.Dec.{eqb}
-use borrow.Author.Tests.{eqb-true, ltb-false, leb-false}
+use borrow.Author.Tests.{eqb-true, ltb-false}
 use Rattle.reading.specs.Read.{ok, pick}
 use Rattle.reading.specs.Head.{Hd, longHead, settled, wideHead, simple, readHead, headWith}
 use Rattle.reading.specs.Item.{readKind}
 use Rattle.reading.specs.Items.{inside, payload, Items, none, more}
 use Rattle.reading.proofs.Rules.{no, pick-false}
-use Rattle.reading.proofs.Gives.{Gives, gives-ok, gives-refused, gives-pick, gives-bind}
+use Rattle.reading.proofs.Gives.{Gives, gives-ok, gives-refused, gives-pick, gives-bind, head-spans}
 
--- what a head that is read tells of its place
-pub record Ahead (s : List ℕ) (at : ℕ) (h : Hd) (n : ℕ) : Type 0 where
-  pub inside : at < length s
-  pub past : at < n
-  pub short : h .argument < 24 → n ≡ at + 1
+-- a small argument stands in the head's first byte
+abbrev Short : ℕ → Hd → ℕ → Type 0
+Short at h n = h .argument < 24 → n ≡ at + 1
 
 module _ (s : List ℕ) (at : ℕ) where
-  long-ahead : (major : ℕ) (be : List ℕ → ℕ → ℕ) (width least : ℕ) → 24 ≤ least → at < length s → Gives (Ahead s at) (longHead major be width least s at)
+  long-short : (major : ℕ) (be : List ℕ → ℕ → ℕ) (width least : ℕ) → 24 ≤ least → Gives (Short at) (longHead major be width least s at)
   unfolding longHead settled
-  long-ahead major be width least l h =
-      gives-pick (Ahead s at) _ _ _ (λ _. gives-refused (Ahead s at) _ _) λ _.
-      gives-pick (Ahead s at) _ _ _ (λ _. gives-refused (Ahead s at) _ _) λ e.
+  long-short major be width least l =
+      gives-pick (Short at) _ _ _ (λ _. gives-refused (Short at) _ _) λ _.
+      gives-pick (Short at) _ _ _ (λ _. gives-refused (Short at) _ _) λ e.
       let k : least ≤ be s (at + 1) = ltb-false _ _ e in
-      gives-ok (Ahead s at) _ _ (record { inside = h; past = omega arith; short = λ i. omega arith })
+      gives-ok (Short at) _ _ (λ i. omega arith)
 
-  pub head-ahead : Gives (Ahead s at) (readHead s at)
+  pub head-short : Gives (Short at) (readHead s at)
   unfolding readHead headWith wideHead simple
-  head-ahead =
-      gives-pick (Ahead s at) _ _ _ (λ e. gives-refused (Ahead s at) _ _) λ e.
-      let h : at < length s = leb-false (length s) at e in
-      gives-pick (Ahead s at) _ _ _ (λ e. gives-refused (Ahead s at) _ _) λ _.
-      gives-pick (Ahead s at) _ _ _ (λ _.
-      gives-pick (Ahead s at) _ _ _ (λ e. gives-refused (Ahead s at) _ _) λ _.
-      gives-pick (Ahead s at) _ _ _ (λ e. gives-refused (Ahead s at) _ _) λ _.
-      gives-ok (Ahead s at) _ _ (record { inside = h; past = omega arith; short = λ i. refl })) λ _.
-      gives-pick (Ahead s at) _ _ _ (λ _. gives-ok (Ahead s at) _ _ (record { inside = h; past = omega arith; short = λ i. refl })) λ _.
-      gives-pick (Ahead s at) _ _ _ (λ _. long-ahead _ _ _ _ (omega arith) h) λ _.
-      gives-pick (Ahead s at) _ _ _ (λ _. long-ahead _ _ _ _ (omega arith) h) λ _.
-      gives-pick (Ahead s at) _ _ _ (λ _. long-ahead _ _ _ _ (omega arith) h) λ _. long-ahead _ _ _ _ (omega arith) h
+  head-short =
+      gives-pick (Short at) _ _ _ (λ _. gives-refused (Short at) _ _) λ _.
+      gives-pick (Short at) _ _ _ (λ _. gives-refused (Short at) _ _) λ _.
+      gives-pick (Short at) _ _ _ (λ _.
+      gives-pick (Short at) _ _ _ (λ _. gives-refused (Short at) _ _) λ _.
+      gives-pick (Short at) _ _ _ (λ _. gives-refused (Short at) _ _) λ _. gives-ok (Short at) _ _ (λ i. refl)) λ _.
+      gives-pick (Short at) _ _ _ (λ _. gives-ok (Short at) _ _ (λ i. refl)) λ _.
+      gives-pick (Short at) _ _ _ (λ _. long-short _ _ _ _ (omega arith)) λ _.
+      gives-pick (Short at) _ _ _ (λ _. long-short _ _ _ _ (omega arith)) λ _.
+      gives-pick (Short at) _ _ _ (λ _. long-short _ _ _ _ (omega arith)) λ _. long-short _ _ _ _ (omega arith)
 
   -- the head of an item of the kind that is due
   pub kind-head : (due : ℕ) → Gives (λ v n. readHead s at ≡ ok (record { major = due; argument = v }) n) (readKind due s at)
@@ -71,11 +67,11 @@ module _ {s : List ℕ} where
   -- each takes a byte at least
   pub items-room : {k a n : ℕ} → Items s k a n → a + k ≤ n
   items-room none = omega arith
-  items-room (more h m e q) = omega (arith, head-ahead s _ h m e .past, items-room q)
+  items-room (more h m e q) = omega (arith, head-spans s _ h m e .0, items-room q)
 
   -- the first is inside the document
   pub items-inside : {k a n : ℕ} → Items s (suc k) a n → a < length s
-  items-inside (more h m e q) = head-ahead s _ h m e .inside
+  items-inside (more h m e q) = let g = head-spans s _ h m e in omega arith
 
   -- they end in one place only
   pub items-same : {k a n m : ℕ} → Items s k a n → Items s k a m → n ≡ m

@@ -1,6 +1,14 @@
 -- Laws that belong to no one function, from the lowest to the highest.
 pub mod Rules
 pub mod Gives
+pub mod Answers
+pub mod Strings
+pub mod Threads
+pub mod Levels
+pub mod Arms
+pub mod Whole
+pub mod Skips
+pub mod Cycle
 pub mod At
 pub mod HeadSound
 pub mod HeadComplete
@@ -26,11 +34,4 @@ pub mod ListViews
 pub mod Depth
 pub mod Refusals
 pub mod Examples
-pub mod Answers
-pub mod Strings
-pub mod Threads
-pub mod Levels
-pub mod Arms
-pub mod Whole
-pub mod Skips
-pub mod Cycle
+pub mod Walks

@@ -23,7 +23,7 @@ use Rattle.reading.proofs.Rules.{pick-true, pick-false, bind-ok, bind-o
 use Rattle.reading.proofs.At.{At, at-here}
 use Rattle.reading.proofs.HeadSound.{Bytes}
 use Rattle.reading.proofs.Blames.{Blames, Inner, torn, padded, misfiled, outsize, smudged, nested, blames-ok, blames-refused, blames-pick, blames-bind}
-use Rattle.reading.proofs.Items.{kind-head, head-ahead}
+use Rattle.reading.proofs.Items.{kind-head, head-short}
 use Rattle.reading.proofs.ModuleLaws.{Nested, ir-sound, ir-complete, ir-blames}
 use Rattle.reading.proofs.ItemLaws.{fields-kind}
 
@@ -147,7 +147,7 @@ module _ (s : List ℕ) where
   )
 
   pub version-place : {p : ℕ} → Unborn s 0 p → p ≡ 1
-  version-place {p} u = head-ahead s 0 _ p (kind-head s 0 4 2 p (fields-kind s 0 2 tt p (u .opens))) .short (omega arith)
+  version-place {p} u = head-short s 0 _ p (kind-head s 0 4 2 p (fields-kind s 0 2 tt p (u .opens))) (omega arith)
 
   -- 7: a top expression or formula is too deep
   pub too-deep : (p : ℕ) → readDocument s ≡ refused TooDeep p → ((at : ℕ) × (readExpr maxDepth s at ≡ refused TooDeep p)) ⊎ ((at : ℕ) × (readFormula maxDepth s at ≡ refused TooDeep p))

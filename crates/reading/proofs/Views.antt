@@ -2,7 +2,7 @@
 use Prim.Native.Nat.{ℕ}
 use mathlib.Core.Path.{_≡_}
 use mathlib.Core.List.{List}
-use Rattle.reading.specs.Read.{Reader, ok, refused, pick, bind}
+use Rattle.reading.specs.Read.{Reader, ok}
 use Rattle.reading.specs.Item.{readFields}
 use Rattle.reading.specs.Combine.{_then_, recordOf}
 use Rattle.reading.specs.Decl.{readEnumDecl, readFieldDecl, readConstructorGroup, readVarDecl}
