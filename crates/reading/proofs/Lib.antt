@@ -35,3 +35,4 @@ pub mod Depth
 pub mod Refusals
 pub mod Examples
 pub mod Walks
+pub mod Faults

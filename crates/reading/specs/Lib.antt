@@ -19,3 +19,4 @@ pub mod Items
 pub mod Views
 pub mod Refusals
 pub mod Skip
+pub mod Faulty
