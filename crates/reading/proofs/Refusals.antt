@@ -88,39 +88,51 @@ item-number (nested d) = (omega arith, omega arith)
 -- where a refusal comes from
 data Blame (s : List ℕ) : Fault → ℕ → Type 0 where
   bulky : maxDocument < length s → Blame s TooLong 0
-  item : {f : Fault} {p : ℕ} → Inner (Nested s) f p → Blame s f p
+  item : {f : Fault} {p : ℕ} → length s ≤ maxDocument → readIr s 0 ≡ refused f p → Inner (Nested s) f p → Blame s f p
   unborn : {p : ℕ} → length s ≤ maxDocument → Unborn s 0 p → Blame s UnknownVersion p
   overhang : {p : ℕ} → length s ≤ maxDocument → Overhang s p → Blame s Trailing p
 
 module _ (s : List ℕ) where
-  ir-blame : length s ≤ maxDocument → (f : Fault) (p : ℕ) → Inner (Nested s) f p ⊎ ((f ≡ UnknownVersion) × Unborn s 0 p) → Blame s f p
-  ir-blame h f p (inl i) = item i
-  ir-blame h f p (inr u) = subst (λ (z : Fault). Blame s z p) (sym (u .0)) (unborn h (u .1))
+  ir-blame : length s ≤ maxDocument → (f : Fault) (p : ℕ) → readIr s 0 ≡ refused f p → Inner (Nested s) f p ⊎ ((f ≡ UnknownVersion) × Unborn s 0 p) → Blame s f p
+  ir-blame h f p e (inl i) = item h e i
+  ir-blame h f p e (inr u) = subst (λ (z : Fault). Blame s z p) (sym (u .0)) (unborn h (u .1))
 
   document-blames : Blames (Blame s) (readDocument s)
   unfolding readDocument
   document-blames =
       blames-pick (Blame s) _ _ _ (λ q. blames-refused (Blame s) _ _ (bulky (ltb-true _ _ q))) λ q.
-      blames-bind (Blame s) _ _ (λ f p e. ir-blame (ltb-false _ _ q) f p (ir-blames s 0 f p e)) λ x n e.
+      blames-bind (Blame s) _ _ (λ f p e. ir-blame (ltb-false _ _ q) f p e (ir-blames s 0 f p e)) λ x n e.
       blames-pick (Blame s) _ _ _ (λ r. blames-refused (Blame s) _ _ (overhang (ltb-false _ _ q) (record { content = x; reads = e; more = ltb-true _ _ r }))) (λ _. blames-ok (Blame s) _ _)
 
   long-blame : {p : ℕ} → Blame s TooLong p → (maxDocument < length s) × (p ≡ 0)
   unfolding number
   long-blame (bulky h) = (h, refl)
-  long-blame (item i) = let h = item-number i in absurd (omega arith)
+  long-blame (item _ _ i) = let h = item-number i in absurd (omega arith)
 
   trailing-blame : {p : ℕ} → Blame s Trailing p → (length s ≤ maxDocument) × Overhang s p
   unfolding number
   trailing-blame (overhang h o) = (h, o)
-  trailing-blame (item i) = let h = item-number i in absurd (omega arith)
+  trailing-blame (item _ _ i) = let h = item-number i in absurd (omega arith)
 
   version-blame : {p : ℕ} → Blame s UnknownVersion p → (length s ≤ maxDocument) × Unborn s 0 p
   unfolding number
   version-blame (unborn h u) = (h, u)
-  version-blame (item i) = let h = item-number i in absurd (omega arith)
+  version-blame (item _ _ i) = let h = item-number i in absurd (omega arith)
 
   deep-blame : {p : ℕ} → Blame s TooDeep p → Nested s p
-  deep-blame (item (nested d)) = d
+  deep-blame (item _ _ (nested d)) = d
+
+  item-blame : {f : Fault} {p : ℕ} → 2 ≤ number f → number f ≤ 7 → Blame s f p → (length s ≤ maxDocument) × (readIr s 0 ≡ refused f p)
+  unfolding number
+  item-blame l u (bulky h) = absurd (omega arith)
+  item-blame l u (item h e i) = (h, e)
+  item-blame l u (unborn h o) = absurd (omega arith)
+  item-blame l u (overhang h o) = absurd (omega arith)
+
+  -- 2 to 7: the first fault of the items, read from left to right
+  pub item-refused : (f : Fault) (p : ℕ) → 2 ≤ number f → number f ≤ 7 → (readDocument s ≡ refused f p) ↔ ((length s ≤ maxDocument) × (readIr s 0 ≡ refused f p))
+  unfolding readDocument
+  item-refused f p l u = (λ e. item-blame l u (document-blames f p e), λ h. rw (le-ltb maxDocument (length s) (h .0), pick-false, h .1, bind-out))
 
   -- 1
   pub too-long : (p : ℕ) → (readDocument s ≡ refused TooLong p) ↔ ((maxDocument < length s) × (p ≡ 0))
