@@ -1,9 +1,9 @@
 -- What the code answers, for what reading gives; and what document 01 says of each answer: number and place.
-use Prim.Native.Nat.{ℕ, _+_}
+use Prim.Native.Nat.{ℕ, _+_, _/_, _%_}
 use mathlib.Core.List.{List}
 use mathlib.Core.Bool.{Bool, true, false}
 use lib.ListN.{getD}
-use lib.Dec.{eqb}
+use lib.Dec.{eqb, ltb}
 use Rattle.reading.specs.Read.{Read, Reader, ok, refused, pick}
 use Rattle.reading.specs.Fault.{number}
 use Rattle.reading.specs.Head.{Hd}
@@ -83,6 +83,10 @@ answerAfter s (step.Refused f p) F = Refused f p
 unfoldable pub taggedAfter : List ℕ → Step → Reader Tag → Tagged
 taggedAfter s (step.To c) F = taggedOf (F s (c .at))
 taggedAfter s (step.Refused f p) F = tagged.Refused f p
+
+-- the first byte of a head that is that byte alone, of the major type that is due
+unfoldable pub oneByte : ℕ → ℕ → Bool
+oneByte due b = pick (ltb 6 due) false (pick (eqb (b / 32) due) (ltb (b % 32) 24) false)
 
 -- a bool as a number
 unfoldable pub bit : Bool → ℕ

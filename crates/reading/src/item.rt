@@ -7,7 +7,7 @@ use crate::step::Step;
 ghost use mathlib.Core.Path.{_≡_};
 ghost use Rattle.reading.specs.Read.{mapR};
 ghost use Rattle.reading.specs.Item.{readKind, readNumber, readIrVersion, readCase, readBool, readFields, readCount, readTag};
-ghost use Rattle.reading.specs.Link.{answer, taggedOf, stands, bit, valueOf, stepOf};
+ghost use Rattle.reading.specs.Link.{answer, taggedOf, stands, bit, valueOf, stepOf, oneByte};
 
 // An item with a number: the number and the cursor after the item; or what is wrong, and where.
 pub enum Answer {
@@ -26,6 +26,19 @@ pub struct Tag {
 pub enum Tagged {
     Case(Tag, Cursor),
     Refused(Fault, usize),
+}
+
+// Whether a head is this byte alone: of the major type that is due, with its argument in it.
+fn one_byte(b: u8, due: u8) -> bool
+    ensures { λ r. ⌜ r ≡ oneByte due b ⌝ }
+{
+    if 6 < due {
+        return false;
+    }
+    if b / 32 == due {
+        return b % 32 < 24;
+    }
+    false
 }
 
 impl Answer {
@@ -51,8 +64,23 @@ impl Answer {
 }
 
 impl Cursor {
-    // The argument of an item of the major type that is due.
+    // The argument of an item of the major type that is due. Most heads are one byte; `any_kind` reads the others.
     pub fn kind(self, doc: &[u8], due: u8) -> Answer
+        ensures { λ r. ⌜ r ≡ answer (readKind due (now (doc .entry)) (self .at)) ⌝ }
+    {
+        let at = self.at;
+        if doc.len() <= at {
+            return Answer::Refused(Fault::Truncated, at);
+        }
+        let b = doc[at];
+        if one_byte(b, due) {
+            return Answer::Got((b % 32) as u64, Cursor { at: at + 1 });
+        }
+        self.any_kind(doc, due)
+    }
+
+    // The same, by the whole head.
+    fn any_kind(self, doc: &[u8], due: u8) -> Answer
         ensures { λ r. ⌜ r ≡ answer (readKind due (now (doc .entry)) (self .at)) ⌝ }
     {
         let at = self.at;
