@@ -16,4 +16,7 @@ pub mod Module
 pub mod Document
 pub mod Link
 pub mod Items
+pub mod Views
+pub mod Refusals
 pub mod Skip
+pub mod Faulty
