@@ -1,7 +1,6 @@
 // The C interface. include/offer.h says what C sees of it.
 use reading::Fault;
 use reading::Verdict;
-
 ghost use mathlib.Core.Path.{_≡_};
 ghost use Rattle.reading.specs.Document.{readDocument};
 ghost use Rattle.reading.specs.Fault.{number};

@@ -62,8 +62,8 @@ module _ (s : List ℕ) (at : ℕ) where
       let k : (at < at + 1) × (at + 1 ≤ length s) = omega arith in
       gives-pick (Spans s at) _ _ _ (λ e. gives-refused (Spans s at) _ _) λ _.
       gives-pick (Spans s at) _ _ _ (λ _.
-        gives-pick (Spans s at) _ _ _ (λ e. gives-refused (Spans s at) _ _) λ _.
-        gives-pick (Spans s at) _ _ _ (λ e. gives-refused (Spans s at) _ _) λ _. gives-ok (Spans s at) _ _ k) λ _.
+      gives-pick (Spans s at) _ _ _ (λ e. gives-refused (Spans s at) _ _) λ _.
+      gives-pick (Spans s at) _ _ _ (λ e. gives-refused (Spans s at) _ _) λ _. gives-ok (Spans s at) _ _ k) λ _.
       gives-pick (Spans s at) _ _ _ (λ _. gives-ok (Spans s at) _ _ k) λ _.
       gives-pick (Spans s at) _ _ _ (λ _. long-spans _ _ _ _ h) λ _.
       gives-pick (Spans s at) _ _ _ (λ _. long-spans _ _ _ _ h) λ _.

@@ -32,11 +32,11 @@ module _ (s : List ℕ) (due at : ℕ) where
   one-byte-is b e =
       by (ltb 6 due) (λ h. let z : false ≡ true = rw (h, pick-true) at e in no (cc)) λ h.
       by (eqb (b / 32) due) (λ q.
-        record {
-          major = eqb-true _ _ q;
-          argument = ltb-true _ _ (rw (h, pick-false, q, pick-true) at e);
-          simple = ltb-false _ _ h;
-        })
+      record {
+        major = eqb-true _ _ q;
+        argument = ltb-true _ _ (rw (h, pick-false, q, pick-true) at e);
+        simple = ltb-false _ _ h;
+      })
       (λ q. let z : false ≡ true = rw (h, pick-false, q, pick-false) at e in no (cc))
 
   pub kind-short : {r : Bool} → at < length s → r ≡ oneByte due (getD s at 0) → r ≡ true → Got (getD s at 0 % 32) (record { at = at + 1 }) ≡ answer (readKind due s at)

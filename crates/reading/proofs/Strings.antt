@@ -34,13 +34,14 @@ module _ {t : Text} where
   unfolding leastOf
   version-least e = sym (ap leastOf e)
 
-  pub name-alphabet : {r : Bool} (b : ℕ) → t ≡ Name → r ≡ nameByte b → r ≡ alphabetOf t b
-  unfolding alphabetOf
-  name-alphabet b e q = q ∙ sym (ap (λ (z : Text). alphabetOf z b) e)
+  module _ (bytes : List ℕ) {r : Bool} where
+    pub name-alphabet : t ≡ Name → r ≡ all nameByte bytes → r ≡ all (alphabetOf t) bytes
+    unfolding alphabetOf
+    name-alphabet e q = q ∙ sym (ap (λ (z : Text). all (alphabetOf z) bytes) e)
 
-  pub version-alphabet : {r : Bool} (b : ℕ) → t ≡ Version → r ≡ versionByte b → r ≡ alphabetOf t b
-  unfolding alphabetOf
-  version-alphabet b e q = q ∙ sym (ap (λ (z : Text). alphabetOf z b) e)
+    pub version-alphabet : t ≡ Version → r ≡ all versionByte bytes → r ≡ all (alphabetOf t) bytes
+    unfolding alphabetOf
+    version-alphabet e q = q ∙ sym (ap (λ (z : Text). all (alphabetOf z) bytes) e)
 
 -- the loop over the bytes
 module _ (p : ℕ → Bool) (t : List ℕ) (i : ℕ) {b : Bool} (e : b ≡ p (getD t i 0)) where

@@ -10,7 +10,6 @@ use Rattle.reading.specs.declared.fault.Fault.the-variants.{Unexpected}
 use Rattle.reading.specs.declared.item.Tag.{Tag}
 
 infixr 50 _then_
-
 -- no item
 unfoldable pub nothing : Reader (Unit {0})
 nothing s at = ok tt at

@@ -59,7 +59,6 @@ abbrev pub encCase : ℕ → ℕ → List ℕ → List ℕ
 encCase items case fields = encHead 4 items ++ encHead 0 case ++ fields
 
 infixr 40 _&_
-
 -- both
 abbrev pub _&_ : Type 0 → Type 0 → Type 0
 A & B = A × B

@@ -40,7 +40,9 @@ impl Step {
         ensures { λ r. ⌜ r ≡ onward (now (doc .entry)) self readEnumDecl ⌝ }
         ensures fields { λ _. do ⌜ (← ⟦EnumDecl::FIELDS⟧ .entry) ≡ 2 ⌝ }
     {
-        self.fields(doc, EnumDecl::FIELDS).name(doc).names(doc, limits::LIST)
+        self.fields(doc, EnumDecl::FIELDS)
+            .name(doc)
+            .names(doc, limits::LIST)
     }
 
     pub(crate) fn enum_decls(self, doc: &[u8]) -> Step
@@ -116,7 +118,9 @@ impl Step {
         ensures { λ r. ⌜ r ≡ onward (now (doc .entry)) self readConstructorGroup ⌝ }
         ensures fields { λ _. do ⌜ (← ⟦ConstructorGroup::FIELDS⟧ .entry) ≡ 2 ⌝ }
     {
-        self.fields(doc, ConstructorGroup::FIELDS).name(doc).constructor_variants(doc)
+        self.fields(doc, ConstructorGroup::FIELDS)
+            .name(doc)
+            .constructor_variants(doc)
     }
 
     pub(crate) fn constructor_groups(self, doc: &[u8]) -> Step
@@ -137,7 +141,10 @@ impl Step {
         ensures { λ r. ⌜ r ≡ onward (now (doc .entry)) self readVarDecl ⌝ }
         ensures fields { λ _. do ⌜ (← ⟦VarDecl::FIELDS⟧ .entry) ≡ 3 ⌝ }
     {
-        self.fields(doc, VarDecl::FIELDS).name(doc).ty(doc).top_expr(doc)
+        self.fields(doc, VarDecl::FIELDS)
+            .name(doc)
+            .ty(doc)
+            .top_expr(doc)
     }
 
     pub(crate) fn var_decls(self, doc: &[u8]) -> Step

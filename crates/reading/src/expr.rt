@@ -75,8 +75,13 @@ impl Cursor {
             0 => self.sized(tag, 2).number(doc, limits::U64),
             1 => self.sized(tag, 2).boolean(doc),
             2 => self.sized(tag, 2).path(doc),
-            3 => self.sized(tag, 3).case_number(doc, limits::UNARY_OPS).expr(doc, left),
-            4 => self.sized(tag, 4).case_number(doc, limits::BIN_OPS).expr(doc, left).expr(doc, left),
+            3 => self.sized(tag, 3)
+                .case_number(doc, limits::UNARY_OPS)
+                .expr(doc, left),
+            4 => self.sized(tag, 4)
+                .case_number(doc, limits::BIN_OPS)
+                .expr(doc, left)
+                .expr(doc, left),
             5..=18446744073709551615 => Step::Refused(Fault::Unexpected, tag.place),
         }
     }

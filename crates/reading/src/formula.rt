@@ -59,7 +59,9 @@ impl Cursor {
     fn bound_and_formula(self, doc: &[u8], tag: Tag, left: u64) -> Step
         ensures { λ r. ⌜ r ≡ stands (sized tag 3 ((readNumber maxU64 then readFormula left) (now (doc .entry)) (self .at))) ⌝ }
     {
-        self.sized(tag, 3).number(doc, limits::U64).formula(doc, left)
+        self.sized(tag, 3)
+            .number(doc, limits::U64)
+            .formula(doc, left)
     }
 
     // The fields of a formula's case.

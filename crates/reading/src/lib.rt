@@ -17,8 +17,8 @@ mod transition;
 mod walk;
 
 pub use cursor::Cursor;
-pub use cursor::head_at;
 pub use cursor::Head;
+pub use cursor::head_at;
 pub use fault::Fault;
 pub use item::Answer;
 pub use item::Tag;
@@ -26,7 +26,6 @@ pub use item::Tagged;
 pub use step::Step;
 pub use text::Text;
 pub use walk::text_at;
-
 ghost use mathlib.Core.Path.{_≡_};
 ghost use Rattle.reading.specs.Document.{readDocument};
 ghost use Rattle.reading.specs.Link.{verdict};

@@ -30,7 +30,9 @@ impl Step {
         ensures { λ r. ⌜ r ≡ onward (now (doc .entry)) self readProperty ⌝ }
         ensures fields { λ _. do ⌜ (← ⟦Property::FIELDS⟧ .entry) ≡ 2 ⌝ }
     {
-        self.fields(doc, Property::FIELDS).name(doc).formula(doc, limits::DEPTH)
+        self.fields(doc, Property::FIELDS)
+            .name(doc)
+            .formula(doc, limits::DEPTH)
     }
 
     pub(crate) fn properties(self, doc: &[u8]) -> Step

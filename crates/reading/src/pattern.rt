@@ -40,7 +40,9 @@ impl Step {
         ensures { λ r. ⌜ r ≡ onward (now (doc .entry)) self readPatternField ⌝ }
         ensures fields { λ _. do ⌜ (← ⟦PatternField::FIELDS⟧ .entry) ≡ 2 ⌝ }
     {
-        self.fields(doc, PatternField::FIELDS).optional_name(doc).pattern_expr(doc)
+        self.fields(doc, PatternField::FIELDS)
+            .optional_name(doc)
+            .pattern_expr(doc)
     }
 
     pub(crate) fn pattern_fields(self, doc: &[u8]) -> Step
@@ -81,7 +83,9 @@ impl Step {
         ensures { λ r. ⌜ r ≡ onward (now (doc .entry)) self readPattern ⌝ }
         ensures fields { λ _. do ⌜ (← ⟦Pattern::FIELDS⟧ .entry) ≡ 2 ⌝ }
     {
-        self.fields(doc, Pattern::FIELDS).name(doc).optional_pattern_variant(doc)
+        self.fields(doc, Pattern::FIELDS)
+            .name(doc)
+            .optional_pattern_variant(doc)
     }
 }
 

@@ -16,17 +16,270 @@ pub enum Text {
     Version,
 }
 
-// An ASCII letter, digit or underscore.
+// 1 for an ASCII letter, digit or underscore.
+const NAME_BYTES: [u8; 256] = [
+    0,
+    0,
+    0,
+    0,
+    0,
+    0,
+    0,
+    0,
+    0,
+    0,
+    0,
+    0,
+    0,
+    0,
+    0,
+    0,
+    0,
+    0,
+    0,
+    0,
+    0,
+    0,
+    0,
+    0,
+    0,
+    0,
+    0,
+    0,
+    0,
+    0,
+    0,
+    0,
+    0,
+    0,
+    0,
+    0,
+    0,
+    0,
+    0,
+    0,
+    0,
+    0,
+    0,
+    0,
+    0,
+    0,
+    0,
+    0,
+    1,
+    1,
+    1,
+    1,
+    1,
+    1,
+    1,
+    1,
+    1,
+    1,
+    0,
+    0,
+    0,
+    0,
+    0,
+    0,
+    0,
+    1,
+    1,
+    1,
+    1,
+    1,
+    1,
+    1,
+    1,
+    1,
+    1,
+    1,
+    1,
+    1,
+    1,
+    1,
+    1,
+    1,
+    1,
+    1,
+    1,
+    1,
+    1,
+    1,
+    1,
+    1,
+    1,
+    0,
+    0,
+    0,
+    0,
+    1,
+    0,
+    1,
+    1,
+    1,
+    1,
+    1,
+    1,
+    1,
+    1,
+    1,
+    1,
+    1,
+    1,
+    1,
+    1,
+    1,
+    1,
+    1,
+    1,
+    1,
+    1,
+    1,
+    1,
+    1,
+    1,
+    1,
+    1,
+    0,
+    0,
+    0,
+    0,
+    0,
+    0,
+    0,
+    0,
+    0,
+    0,
+    0,
+    0,
+    0,
+    0,
+    0,
+    0,
+    0,
+    0,
+    0,
+    0,
+    0,
+    0,
+    0,
+    0,
+    0,
+    0,
+    0,
+    0,
+    0,
+    0,
+    0,
+    0,
+    0,
+    0,
+    0,
+    0,
+    0,
+    0,
+    0,
+    0,
+    0,
+    0,
+    0,
+    0,
+    0,
+    0,
+    0,
+    0,
+    0,
+    0,
+    0,
+    0,
+    0,
+    0,
+    0,
+    0,
+    0,
+    0,
+    0,
+    0,
+    0,
+    0,
+    0,
+    0,
+    0,
+    0,
+    0,
+    0,
+    0,
+    0,
+    0,
+    0,
+    0,
+    0,
+    0,
+    0,
+    0,
+    0,
+    0,
+    0,
+    0,
+    0,
+    0,
+    0,
+    0,
+    0,
+    0,
+    0,
+    0,
+    0,
+    0,
+    0,
+    0,
+    0,
+    0,
+    0,
+    0,
+    0,
+    0,
+    0,
+    0,
+    0,
+    0,
+    0,
+    0,
+    0,
+    0,
+    0,
+    0,
+    0,
+    0,
+    0,
+    0,
+    0,
+    0,
+    0,
+    0,
+    0,
+    0,
+    0,
+    0,
+    0,
+    0,
+    0,
+    0,
+    0,
+    0,
+    0,
+    0,
+    0,
+    0,
+    0,
+    0,
+];
+
 fn name_byte(b: u8) -> bool
     ensures { λ r. ⌜ r ≡ nameByte b ⌝ }
 {
-    match b {
-        48..=57 => true,
-        65..=90 => true,
-        95 => true,
-        97..=122 => true,
-        _ => false,
-    }
+    NAME_BYTES[b as usize] == 1
 }
 
 // A printing ASCII character, or a space.
@@ -39,15 +292,6 @@ fn version_byte(b: u8) -> bool
     }
 }
 
-fn alphabet_has(text: Text, b: u8) -> bool
-    ensures { λ r. ⌜ r ≡ alphabetOf text b ⌝ }
-{
-    match text {
-        Text::Name => name_byte(b),
-        Text::Version => version_byte(b),
-    }
-}
-
 fn least(text: Text) -> u64
     ensures { λ r. ⌜ r ≡ leastOf text ⌝ }
 {
@@ -57,18 +301,41 @@ fn least(text: Text) -> u64
     }
 }
 
-fn all_in_alphabet(text: Text, bytes: &[u8]) -> bool
-    ensures { λ r. ⌜ r ≡ all (alphabetOf text) (now (bytes .entry)) ⌝ }
+fn all_name_bytes(bytes: &[u8]) -> bool
+    ensures { λ r. ⌜ r ≡ all nameByte (now (bytes .entry)) ⌝ }
 {
     let mut i = 0;
     while i < bytes.len() {
-        if alphabet_has(text, bytes[i]) {
+        if name_byte(bytes[i]) {
             i += 1;
         } else {
             return false;
         }
     }
     true
+}
+
+fn all_version_bytes(bytes: &[u8]) -> bool
+    ensures { λ r. ⌜ r ≡ all versionByte (now (bytes .entry)) ⌝ }
+{
+    let mut i = 0;
+    while i < bytes.len() {
+        if version_byte(bytes[i]) {
+            i += 1;
+        } else {
+            return false;
+        }
+    }
+    true
+}
+
+fn all_in_alphabet(text: Text, bytes: &[u8]) -> bool
+    ensures { λ r. ⌜ r ≡ all (alphabetOf text) (now (bytes .entry)) ⌝ }
+{
+    match text {
+        Text::Name => all_name_bytes(bytes),
+        Text::Version => all_version_bytes(bytes),
+    }
 }
 
 // The bytes of a string whose head stands at `at` and is read.

@@ -37,7 +37,10 @@ impl Step {
         ensures { λ r. ⌜ r ≡ onward (now (doc .entry)) self readOutputExpr ⌝ }
         ensures fields { λ _. do ⌜ (← ⟦OutputExpr::FIELDS⟧ .entry) ≡ 3 ⌝ }
     {
-        self.fields(doc, OutputExpr::FIELDS).name(doc).optional_name(doc).exprs(doc)
+        self.fields(doc, OutputExpr::FIELDS)
+            .name(doc)
+            .optional_name(doc)
+            .exprs(doc)
     }
 
     pub(crate) fn output_exprs(self, doc: &[u8]) -> Step
@@ -79,7 +82,9 @@ impl Step {
         ensures { λ r. ⌜ r ≡ onward (now (doc .entry)) self readOnError ⌝ }
         ensures fields { λ _. do ⌜ (← ⟦OnError::FIELDS⟧ .entry) ≡ 2 ⌝ }
     {
-        self.fields(doc, OnError::FIELDS).name(doc).output_exprs(doc)
+        self.fields(doc, OnError::FIELDS)
+            .name(doc)
+            .output_exprs(doc)
     }
 
     pub(crate) fn optional_on_error(self, doc: &[u8]) -> Step

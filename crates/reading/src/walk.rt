@@ -40,7 +40,13 @@ impl Cursor {
         let at = self.at;
         let h = self.head(doc);
         match h {
-            Head::Item(major, arg, next) => next.skip_body(doc, at, more, inside(major, arg), payload(major, arg)),
+            Head::Item(major, arg, next) => next.skip_body(
+                doc,
+                at,
+                more,
+                inside(major, arg),
+                payload(major, arg),
+            ),
             Head::Refused(fault, place) => Answer::Refused(fault, place),
         }
     }
