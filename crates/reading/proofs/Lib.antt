@@ -3,7 +3,7 @@ pub mod Rules
 pub mod Gives
 pub mod Answers
 pub mod Short
-pub mod Table
+pub mod Bytewise
 pub mod Strings
 pub mod Threads
 pub mod Levels

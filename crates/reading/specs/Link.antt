@@ -93,6 +93,10 @@ unfoldable pub bit : Bool → ℕ
 bit false = 0
 bit true = 1
 
+-- the name bytes among the 32 from 32 * row on, one bit each
+unfoldable pub nameRow : ℕ → ℕ
+nameRow row = pick (eqb row 1) 67043328 (pick (eqb row 2) 2281701374 (pick (eqb row 3) 134217726 0))
+
 -- a name has a byte at least
 unfoldable pub leastOf : Text → ℕ
 leastOf text.Name = 1

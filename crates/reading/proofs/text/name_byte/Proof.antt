@@ -1,15 +1,11 @@
--- The table is what the alphabet computes, at each of its 256 entries.
+-- The bit of the byte in its row, for every byte.
 use borrow.Author.Needs.{needs}
-use Rattle.reading.specs.Read.{pick}
-use Rattle.reading.specs.Text.{nameByte}
-use Rattle.reading.specs.Link.{bit}
-use Rattle.reading.proofs.Table.{marked}
+use Rattle.reading.proofs.Bytewise.{name-bit}
 use Rattle.reading.proofs.text.name_byte.Statement.{statement}
 use Rattle.reading.proofs.text.name_byte.Tie as tie
 
 returns : tie.Need-returns
-unfolding nameByte pick bit
-returns c = marked nameByte 256 (c .args .b) (search needs)
+returns c = name-bit _ (search needs) (c .name-row .ensures)
 
 pub name-byte-spec : {M : Type 1} → statement M
-name-byte-spec = tie.close (tie.spec (λ c. search needs) returns)
+name-byte-spec = tie.close (tie.spec (λ c κs. search needs) (λ c. search needs) (λ c. search needs) returns)
