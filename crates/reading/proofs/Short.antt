@@ -6,13 +6,17 @@ use mathlib.Core.Bool.{Bool, true, false}
 use native.Mathlib.Omega.{arith}
 use lib.ListN.{length, getD}
 use lib.Dec.{eqb, ltb}
-use borrow.Author.Tests.{ltb-true, ltb-false, eqb-true, lt-ltb, le-ltb, lt-leb, le-leb, eq-eqb, ne-eqb}
-use Rattle.reading.specs.Read.{ok, refused, pick, bind}
+use borrow.Author.Tests.{ltb-true, ltb-false, eqb-true, eqb-false, lt-ltb, le-ltb, lt-leb, le-leb, eq-eqb, ne-eqb}
+use Rattle.reading.specs.Read.{ok, refused, pick, bind, mapR}
 use Rattle.reading.specs.Head.{readHead, headWith}
+use Rattle.reading.specs.Limits.{maxText}
 use Rattle.reading.specs.Item.{readKind}
-use Rattle.reading.specs.Link.{answer, oneByte}
+use Rattle.reading.specs.Text.{textBytes, readText, readName}
+use Rattle.reading.specs.Link.{answer, oneByte, nameHead, alphabetOf}
 use Rattle.reading.specs.declared.fault.Fault.the-variants.{Truncated}
+use Rattle.reading.specs.declared.item.Answer.{Answer}
 use Rattle.reading.specs.declared.item.Answer.the-variants.{Got, Refused}
+use Rattle.reading.specs.declared.text.Text.the-variants.{Name}
 use Rattle.reading.proofs.Rules.{no, by, pick-true, pick-false, bind-ok, bind-out}
 use Rattle.reading.proofs.Answers.{answer-ok, answer-out}
 
@@ -39,10 +43,31 @@ module _ (s : List ℕ) (due at : ℕ) where
       })
       (λ q. let z : false ≡ true = rw (h, pick-false, q, pick-false) at e in no (cc))
 
-  pub kind-short : {r : Bool} → at < length s → r ≡ oneByte due (getD s at 0) → r ≡ true → Got (getD s at 0 % 32) (record { at = at + 1 }) ≡ answer (readKind due s at)
+  -- so it is read as its own argument
+  pub kind-one : at < length s → oneByte due (getD s at 0) ≡ true → readKind due s at ≡ ok (getD s at 0 % 32) (at + 1)
   unfolding readKind readHead headWith
-  kind-short h e q =
-      let b = one-byte-is (getD s at 0) (sym e ∙ q) in
+  kind-one h e =
+      let b = one-byte-is (getD s at 0) e in
       let small : getD s at 0 % 32 ≤ 27 = omega (arith, b .argument) in
       let other : due ≡ 7 → ⊥ = λ z. omega (arith, b .simple) in
-      rw (lt-leb (length s) at h, pick-false, le-ltb 27 (getD s at 0 % 32) small, pick-false, b .major, ne-eqb due 7 other, pick-false, lt-ltb (getD s at 0 % 32) 24 (b .argument), pick-true, bind-ok, eq-eqb due due refl, pick-true, answer-ok)
+      rw (lt-leb (length s) at h, pick-false, le-ltb 27 (getD s at 0 % 32) small, pick-false, b .major, ne-eqb due 7 other, pick-false, lt-ltb (getD s at 0 % 32) 24 (b .argument), pick-true, bind-ok, eq-eqb due due refl, pick-true)
+
+  pub kind-short : {r : Bool} → at < length s → r ≡ oneByte due (getD s at 0) → r ≡ true → Got (getD s at 0 % 32) (record { at = at + 1 }) ≡ answer (readKind due s at)
+  kind-short h e q = rw (kind-one h (sym e ∙ q), answer-ok)
+
+-- a test that passed is none of those that would have failed it
+unless : (b c : Bool) → pick b false c ≡ true → (b ≡ false) × (c ≡ true)
+unfolding pick
+unless true c e = no (cc)
+unless false c e = (refl, e)
+
+module _ (s : List ℕ) (at : ℕ) {r : Bool} (q : r ≡ true) where
+  -- a name whose head is one byte
+  pub name-short : at < length s → r ≡ nameHead (getD s at 0) → {x : Answer} → x ≡ answer (mapR length (textBytes (alphabetOf Name) s at (getD s at 0 % 32) (at + 1))) → x ≡ answer (mapR length (readName s at))
+  unfolding nameHead readName readText alphabetOf
+  name-short h e z =
+      let u = unless _ _ (sym e ∙ q) in
+      let w = one-byte-is s 3 at (getD s at 0) (u .1) in
+      let some : 1 ≤ getD s at 0 % 32 = let n : getD s at 0 % 32 ≡ 0 → ⊥ = eqb-false _ _ (u .0) in omega arith in
+      let few : getD s at 0 % 32 ≤ maxText = omega (arith, w .argument) in
+      z ∙ sym (rw (kind-one s 3 at h (u .1), bind-ok, le-ltb (getD s at 0 % 32) 1 some, pick-false, le-ltb maxText (getD s at 0 % 32) few, pick-false))

@@ -88,14 +88,18 @@ taggedAfter s (step.Refused f p) F = tagged.Refused f p
 unfoldable pub oneByte : ℕ → ℕ → Bool
 oneByte due b = pick (ltb 6 due) false (pick (eqb (b / 32) due) (ltb (b % 32) 24) false)
 
+-- the head of a string that is not empty, in one byte
+unfoldable pub nameHead : ℕ → Bool
+nameHead b = pick (eqb (b % 32) 0) false (oneByte 3 b)
+
 -- a bool as a number
 unfoldable pub bit : Bool → ℕ
 bit false = 0
 bit true = 1
 
--- the name bytes among the 32 from 32 * row on, one bit each
+-- the name bytes among the 64 from 64 * row on, one bit each
 unfoldable pub nameRow : ℕ → ℕ
-nameRow row = pick (eqb row 1) 67043328 (pick (eqb row 2) 2281701374 (pick (eqb row 3) 134217726 0))
+nameRow row = pick (eqb row 0) 287948901175001088 (pick (eqb row 1) 576460745995190270 0)
 
 -- a name has a byte at least
 unfoldable pub leastOf : Text → ℕ

@@ -29,7 +29,7 @@ pub enum Tagged {
 }
 
 // Whether a head is this byte alone: of the major type that is due, with its argument in it.
-fn one_byte(b: u8, due: u8) -> bool
+pub(crate) fn one_byte(b: u8, due: u8) -> bool
     ensures { λ r. ⌜ r ≡ oneByte due b ⌝ }
 {
     if 6 < due {

@@ -67,7 +67,7 @@ impl Step {
         ensures { λ r. ⌜ r ≡ onward (now (doc .entry)) self readName ⌝ }
     {
         match self {
-            Step::To(c) => c.text(doc, Text::Name).step(),
+            Step::To(c) => c.name(doc).step(),
             Step::Refused(fault, place) => Step::Refused(fault, place),
         }
     }

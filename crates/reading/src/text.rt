@@ -1,14 +1,15 @@
 // Names and version strings.
 use crate::cursor::Cursor;
 use crate::fault::Fault;
+use crate::item::one_byte;
 use crate::item::Answer;
 use crate::limits;
 ghost use mathlib.Core.Path.{_≡_};
 ghost use Prim.Native.Nat.{_≤_};
 ghost use lib.ListN.{length};
 ghost use Rattle.reading.specs.Read.{mapR};
-ghost use Rattle.reading.specs.Text.{all, nameByte, versionByte, textBytes, readText};
-ghost use Rattle.reading.specs.Link.{answer, leastOf, alphabetOf, nameRow};
+ghost use Rattle.reading.specs.Text.{all, nameByte, versionByte, textBytes, readText, readName};
+ghost use Rattle.reading.specs.Link.{answer, leastOf, alphabetOf, nameRow, nameHead};
 
 // What a string is: a name has a byte at least, and a narrower alphabet.
 pub enum Text {
@@ -16,14 +17,13 @@ pub enum Text {
     Version,
 }
 
-// The letters, digits and the underscore among the 32 bytes from 32 * row on, one bit each.
-fn name_row(row: u8) -> u32
+// The letters, digits and the underscore among the 64 bytes from 64 * row on, one bit each.
+fn name_row(row: u8) -> u64
     ensures { λ r. ⌜ r ≡ nameRow row ⌝ }
 {
     match row {
-        1 => 0x03FF0000,
-        2 => 0x87FFFFFE,
-        3 => 0x07FFFFFE,
+        0 => 0x03FF000000000000,
+        1 => 0x07FFFFFE87FFFFFE,
         _ => 0,
     }
 }
@@ -32,8 +32,8 @@ fn name_row(row: u8) -> u32
 fn name_byte(b: u8) -> bool
     ensures { λ r. ⌜ r ≡ nameByte b ⌝ }
 {
-    let row = name_row(b / 32);
-    let k = (b % 32) as u32;
+    let row = name_row(b / 64);
+    let k = (b % 64) as u64;
     (row >> k) % 2 == 1
 }
 
@@ -93,6 +93,16 @@ fn all_in_alphabet(text: Text, bytes: &[u8]) -> bool
     }
 }
 
+// Whether this byte is the head of a string that is not empty.
+fn name_head(b: u8) -> bool
+    ensures { λ r. ⌜ r ≡ nameHead b ⌝ }
+{
+    if b % 32 == 0 {
+        return false;
+    }
+    one_byte(b, 3)
+}
+
 // The bytes of a string whose head stands at `at` and is read.
 fn text_bytes(doc: &[u8], text: Text, at: usize, len: usize, from: usize) -> Answer
     requires { ⌜ from ≤ length (now doc) ⌝ }
@@ -109,6 +119,21 @@ fn text_bytes(doc: &[u8], text: Text, at: usize, len: usize, from: usize) -> Ans
 }
 
 impl Cursor {
+    // A name: its length, and the cursor after it. Mostly its head is one byte; `text` reads the others.
+    pub fn name(self, doc: &[u8]) -> Answer
+        ensures { λ r. ⌜ r ≡ answer (mapR length (readName (now (doc .entry)) (self .at))) ⌝ }
+    {
+        let at = self.at;
+        if doc.len() <= at {
+            return self.text(doc, Text::Name);
+        }
+        let b = doc[at];
+        if name_head(b) {
+            return text_bytes(doc, Text::Name, at, (b % 32) as usize, at + 1);
+        }
+        self.text(doc, Text::Name)
+    }
+
     // A string: its length, and the cursor after it.
     pub fn text(self, doc: &[u8], text: Text) -> Answer
         ensures { λ r. ⌜ r ≡ answer (mapR length (readText (leastOf text) (alphabetOf text) (now (doc .entry)) (self .at))) ⌝ }

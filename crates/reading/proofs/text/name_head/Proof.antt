@@ -1,0 +1,17 @@
+-- By the tests on the way.
+use borrow.Author.Needs.{needs}
+use Rattle.reading.proofs.Answers.{tests}
+use Rattle.reading.specs.Link.{nameHead}
+use Rattle.reading.proofs.text.name_head.Statement.{statement}
+use Rattle.reading.proofs.text.name_head.Tie as tie
+
+returns : tie.Need-returns
+unfolding nameHead
+returns c = search tests
+
+returns-2 : tie.Need-returns-2
+unfolding nameHead
+returns-2 c = search tests
+
+pub name-head-spec : {M : Type 1} → statement M
+name-head-spec = tie.close (tie.spec returns (λ c κs. search needs) returns-2)
