@@ -36,5 +36,6 @@ pub mod ListViews
 pub mod Depth
 pub mod Refusals
 pub mod Examples
+pub mod ReaderLaws
 pub mod Walks
 pub mod Faults
