@@ -38,6 +38,6 @@ module _ (f g : ℕ → Bool) where
       below n (s .1) k (omega arith)
 
 -- the bit of a byte in its row
-pub name-bit : (b : ℕ) → b < 256 → {row : ℕ} → row ≡ nameRow (b / 64) → eqb (row / 2 ^ (b % 64) % 2) 1 ≡ nameByte b
+pub name-bit : (b : ℕ) → b < 256 → {row : ℕ} → row ≡ nameRow (b / 32) → eqb (row / 2 ^ (b % 32) % 2) 1 ≡ nameByte b
 unfolding nameRow nameByte pick
-name-bit b h e = ap (λ (r : ℕ). eqb (r / 2 ^ (b % 64) % 2) 1) e ∙ below (λ i. eqb (nameRow (i / 64) / 2 ^ (i % 64) % 2) 1) nameByte 256 tt b h
+name-bit b h e = ap (λ (r : ℕ). eqb (r / 2 ^ (b % 32) % 2) 1) e ∙ below (λ i. eqb (nameRow (i / 32) / 2 ^ (i % 32) % 2) 1) nameByte 256 tt b h

@@ -1,5 +1,5 @@
 -- A head of one byte is read as such.
-use Prim.Native.Nat.{ℕ, _+_, _/_, _%_, _<_, _≤_}
+use Prim.Native.Nat.{ℕ, _+_, _-_, _*_, _/_, _%_, _<_, _≤_}
 use mathlib.Core.Path.{_≡_, refl, sym, ap, _∙_}
 use mathlib.Core.List.{List}
 use mathlib.Core.Bool.{Bool, true, false}
@@ -20,6 +20,12 @@ use Rattle.reading.specs.declared.text.Text.the-variants.{Name}
 use Rattle.reading.proofs.Rules.{no, by, pick-true, pick-false, bind-ok, bind-out}
 use Rattle.reading.proofs.Answers.{answer-ok, answer-out}
 
+-- a test that passed is none of those that would have failed it
+unless : (b c : Bool) → pick b false c ≡ true → (b ≡ false) × (c ≡ true)
+unfolding pick
+unless true c e = no (cc)
+unless false c e = (refl, e)
+
 module _ (s : List ℕ) (due at : ℕ) where
   pub kind-missing : length s ≤ at → Refused Truncated at ≡ answer (readKind due s at)
   unfolding readKind readHead
@@ -34,14 +40,12 @@ module _ (s : List ℕ) (due at : ℕ) where
   one-byte-is : (b : ℕ) → oneByte due b ≡ true → OneByte b
   unfolding oneByte
   one-byte-is b e =
-      by (ltb 6 due) (λ h. let z : false ≡ true = rw (h, pick-true) at e in no (cc)) λ h.
-      by (eqb (b / 32) due) (λ q.
-      record {
-        major = eqb-true _ _ q;
-        argument = ltb-true _ _ (rw (h, pick-false, q, pick-true) at e);
-        simple = ltb-false _ _ h;
-      })
-      (λ q. let z : false ≡ true = rw (h, pick-false, q, pick-false) at e in no (cc))
+      let u = unless _ _ e in
+      let v = unless _ _ (u .1) in
+      let d : due ≤ 6 = ltb-false _ _ (u .0) in
+      let l : due * 32 ≤ b = ltb-false _ _ (v .0) in
+      let m : b - due * 32 < 24 = ltb-true _ _ (v .1) in
+      record { major = omega arith; argument = omega arith; simple = d }
 
   -- so it is read as its own argument
   pub kind-one : at < length s → oneByte due (getD s at 0) ≡ true → readKind due s at ≡ ok (getD s at 0 % 32) (at + 1)
@@ -55,11 +59,11 @@ module _ (s : List ℕ) (due at : ℕ) where
   pub kind-short : {r : Bool} → at < length s → r ≡ oneByte due (getD s at 0) → r ≡ true → Got (getD s at 0 % 32) (record { at = at + 1 }) ≡ answer (readKind due s at)
   kind-short h e q = rw (kind-one h (sym e ∙ q), answer-ok)
 
--- a test that passed is none of those that would have failed it
-unless : (b c : Bool) → pick b false c ≡ true → (b ≡ false) × (c ≡ true)
-unfolding pick
-unless true c e = no (cc)
-unless false c e = (refl, e)
+by-range : (b : ℕ) → 97 ≤ b → b < 120 → oneByte 3 b ≡ true
+unfolding oneByte
+by-range b l m =
+    let k : b - 96 < 24 = omega arith in
+    rw (pick-false, le-ltb b 96 (omega arith), pick-false, lt-ltb (b - 96) 24 k)
 
 module _ (s : List ℕ) (at : ℕ) {r : Bool} (q : r ≡ true) where
   -- a name whose head is one byte
@@ -67,7 +71,9 @@ module _ (s : List ℕ) (at : ℕ) {r : Bool} (q : r ≡ true) where
   unfolding nameHead readName readText alphabetOf
   name-short h e z =
       let u = unless _ _ (sym e ∙ q) in
-      let w = one-byte-is s 3 at (getD s at 0) (u .1) in
-      let some : 1 ≤ getD s at 0 % 32 = let n : getD s at 0 % 32 ≡ 0 → ⊥ = eqb-false _ _ (u .0) in omega arith in
-      let few : getD s at 0 % 32 ≤ maxText = omega (arith, w .argument) in
-      z ∙ sym (rw (kind-one s 3 at h (u .1), bind-ok, le-ltb (getD s at 0 % 32) 1 some, pick-false, le-ltb maxText (getD s at 0 % 32) few, pick-false))
+      let l : 97 ≤ getD s at 0 = ltb-false _ _ (u .0) in
+      let m : getD s at 0 < 120 = ltb-true _ _ (u .1) in
+      let one : oneByte 3 (getD s at 0) ≡ true = by-range (getD s at 0) l m in
+      let some : 1 ≤ getD s at 0 % 32 = omega arith in
+      let few : getD s at 0 % 32 ≤ maxText = omega arith in
+      z ∙ sym (rw (kind-one s 3 at h one, bind-ok, le-ltb (getD s at 0 % 32) 1 some, pick-false, le-ltb maxText (getD s at 0 % 32) few, pick-false))

@@ -29,16 +29,17 @@ pub enum Tagged {
 }
 
 // Whether a head is this byte alone: of the major type that is due, with its argument in it.
-pub(crate) fn one_byte(b: u8, due: u8) -> bool
+fn one_byte(b: u8, due: u8) -> bool
     ensures { λ r. ⌜ r ≡ oneByte due b ⌝ }
 {
     if 6 < due {
         return false;
     }
-    if b / 32 == due {
-        return b % 32 < 24;
+    let first = due * 32;
+    if b < first {
+        return false;
     }
-    false
+    b - first < 24
 }
 
 impl Answer {

@@ -1,7 +1,6 @@
 // Names and version strings.
 use crate::cursor::Cursor;
 use crate::fault::Fault;
-use crate::item::one_byte;
 use crate::item::Answer;
 use crate::limits;
 ghost use mathlib.Core.Path.{_≡_};
@@ -17,13 +16,14 @@ pub enum Text {
     Version,
 }
 
-// The letters, digits and the underscore among the 64 bytes from 64 * row on, one bit each.
-fn name_row(row: u8) -> u64
+// The letters, digits and the underscore among the 32 bytes from 32 * row on, one bit each.
+fn name_row(row: u8) -> u32
     ensures { λ r. ⌜ r ≡ nameRow row ⌝ }
 {
     match row {
-        0 => 0x03FF000000000000,
-        1 => 0x07FFFFFE87FFFFFE,
+        1 => 0x03FF0000,
+        2 => 0x87FFFFFE,
+        3 => 0x07FFFFFE,
         _ => 0,
     }
 }
@@ -32,8 +32,8 @@ fn name_row(row: u8) -> u64
 fn name_byte(b: u8) -> bool
     ensures { λ r. ⌜ r ≡ nameByte b ⌝ }
 {
-    let row = name_row(b / 64);
-    let k = (b % 64) as u64;
+    let row = name_row(b / 32);
+    let k = (b % 32) as u32;
     (row >> k) % 2 == 1
 }
 
@@ -97,10 +97,10 @@ fn all_in_alphabet(text: Text, bytes: &[u8]) -> bool
 fn name_head(b: u8) -> bool
     ensures { λ r. ⌜ r ≡ nameHead b ⌝ }
 {
-    if b % 32 == 0 {
-        return false;
+    match b {
+        97..=119 => true,
+        _ => false,
     }
-    one_byte(b, 3)
 }
 
 // The bytes of a string whose head stands at `at` and is read.

@@ -1,4 +1,5 @@
 -- By the tests on the way.
+use borrow.Author.Needs.{needs}
 use Rattle.reading.proofs.Answers.{tests}
 use Rattle.reading.specs.Link.{oneByte}
 use Rattle.reading.proofs.item.one_byte.Statement.{statement}
@@ -17,4 +18,4 @@ unfolding oneByte
 returns-3 c = search tests
 
 pub one-byte-spec : {M : Type 1} → statement M
-one-byte-spec = tie.close (tie.spec returns returns-2 returns-3)
+one-byte-spec = tie.close (tie.spec returns (λ c. search needs) returns-2 returns-3)

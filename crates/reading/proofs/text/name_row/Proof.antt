@@ -14,7 +14,11 @@ returns-2 c = search (tests, c .match .keys2)
 
 returns-3 : tie.Need-returns-3
 unfolding nameRow
-returns-3 c = search (tests, c .match .rest .0 .1, c .match .rest .1)
+returns-3 c = search (tests, c .match .keys3)
+
+returns-4 : tie.Need-returns-4
+unfolding nameRow
+returns-4 c = search (tests, c .match .rest .0 .0 .1, c .match .rest .0 .1, c .match .rest .1)
 
 pub name-row-spec : {M : Type 1} → statement M
-name-row-spec = tie.close (tie.spec returns returns-2 returns-3)
+name-row-spec = tie.close (tie.spec returns returns-2 returns-3 returns-4)
