@@ -32,11 +32,6 @@ unfoldable pub headOf : Read Hd → Head
 headOf (ok h n) = head.Item (h .major) (h .argument) (record { at = n })
 headOf (refused f p) = head.Refused f p
 
--- the cursor after the head at a place; the place itself, if the head is refused
-unfoldable pub pastHead : Head → ℕ → Cursor
-pastHead (head.Item major argument next) at = next
-pastHead (head.Refused f p) at = record { at = at }
-
 -- an item with a number
 unfoldable pub answer : Read ℕ → Answer
 answer (ok v n) = Got v (record { at = n })

@@ -125,7 +125,7 @@ fn head_with(doc: &[u8], at: usize, major: u8, info: u8) -> Head
 }
 
 // The head at any place, past the end too.
-pub fn head_at(doc: &[u8], at: usize) -> Head
+pub(crate) fn head_at(doc: &[u8], at: usize) -> Head
     ensures { λ r. ⌜ r ≡ headOf (readHead (now (doc .entry)) at) ⌝ }
 {
     if doc.len() <= at {

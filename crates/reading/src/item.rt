@@ -104,13 +104,13 @@ impl Cursor {
     {
         let at = self.at;
         let r = self.kind(doc, 0);
-        let Answer::Got(v, next) = r else {
+        let Answer::Got(value, next) = r else {
             return r;
         };
-        if limit < v {
+        if limit < value {
             return Answer::Refused(Fault::OutOfRange, at);
         }
-        Answer::Got(v, next)
+        Answer::Got(value, next)
     }
 
     // ir_version.
@@ -119,13 +119,13 @@ impl Cursor {
     {
         let at = self.at;
         let r = self.kind(doc, 0);
-        let Answer::Got(v, next) = r else {
+        let Answer::Got(version, next) = r else {
             return r;
         };
-        if limits::VERSION < v {
+        if limits::VERSION < version {
             return Answer::Refused(Fault::UnknownVersion, at);
         }
-        Answer::Got(v, next)
+        Answer::Got(version, next)
     }
 
     // A bare case number.
@@ -134,25 +134,25 @@ impl Cursor {
     {
         let at = self.at;
         let r = self.kind(doc, 0);
-        let Answer::Got(v, next) = r else {
+        let Answer::Got(case, next) = r else {
             return r;
         };
-        if v < cases {
-            return Answer::Got(v, next);
+        if case < cases {
+            return Answer::Got(case, next);
         }
         Answer::Refused(Fault::Unexpected, at)
     }
 
     // A bool: 0 or 1.
-    pub fn boolean(self, doc: &[u8]) -> Answer
+    pub(crate) fn boolean(self, doc: &[u8]) -> Answer
         ensures { λ r. ⌜ r ≡ answer (mapR bit (readBool (now (doc .entry)) (self .at))) ⌝ }
     {
         let at = self.at;
         let r = self.any_kind(doc, 7);
-        let Answer::Got(v, next) = r else {
+        let Answer::Got(simple, next) = r else {
             return r;
         };
-        match v {
+        match simple {
             20 => Answer::Got(0, next),
             21 => Answer::Got(1, next),
             _ => Answer::Refused(Fault::Unexpected, at),
@@ -160,14 +160,14 @@ impl Cursor {
     }
 
     // The head of a record of as many fields.
-    pub fn fields(self, doc: &[u8], fields: u64) -> Step
+    pub(crate) fn fields(self, doc: &[u8], fields: u64) -> Step
         ensures { λ r. ⌜ r ≡ stands (readFields fields (now (doc .entry)) (self .at)) ⌝ }
     {
         let at = self.at;
         let r = self.kind(doc, 4);
         match r {
-            Answer::Got(v, next) => {
-                if v == fields {
+            Answer::Got(count, next) => {
+                if count == fields {
                     Step::To(next)
                 } else {
                     Step::Refused(Fault::Unexpected, at)
@@ -183,13 +183,13 @@ impl Cursor {
     {
         let at = self.at;
         let r = self.kind(doc, 4);
-        let Answer::Got(v, next) = r else {
+        let Answer::Got(entries, next) = r else {
             return r;
         };
-        if limit < v {
+        if limit < entries {
             return Answer::Refused(Fault::OutOfRange, at);
         }
-        Answer::Got(v, next)
+        Answer::Got(entries, next)
     }
 
     // The head of a data enum.

@@ -19,14 +19,12 @@ mod walk;
 
 pub use cursor::Cursor;
 pub use cursor::Head;
-pub use cursor::head_at;
 pub use fault::Fault;
 pub use item::Answer;
 pub use item::Tag;
 pub use item::Tagged;
 pub use reader::Reader;
 pub use reader::head_from;
-pub use reader::second_head;
 pub use step::Step;
 pub use text::Text;
 pub use walk::text_at;

@@ -6,8 +6,7 @@ use crate::cursor::Head;
 use crate::cursor::head_at;
 ghost use mathlib.Core.Path.{_≡_};
 ghost use Rattle.reading.specs.Head.{readHead};
-ghost use Rattle.reading.specs.Link.{headOf, pastHead};
-ghost use Rattle.reading.specs.Read.{bind};
+ghost use Rattle.reading.specs.Link.{headOf};
 
 pub struct Reader<'a> {
     pub doc: &'a [u8],
@@ -45,23 +44,4 @@ pub fn head_from(doc: &[u8], at: usize) -> Head
     ensures { λ r. ⌜ r ≡ headOf (readHead (now (doc .entry)) at) ⌝ }
 {
     Reader::new(doc, at).head()
-}
-
-// The cursor after the head at a place; the place itself, if the head is refused.
-fn past(head: Head, at: usize) -> Cursor
-    ensures { λ r. ⌜ r ≡ pastHead head at ⌝ }
-{
-    match head {
-        Head::Item(_, _, next) => next,
-        Head::Refused(_, _) => Cursor { at },
-    }
-}
-
-// The head after the head at any place; the first one's fault where that is refused.
-pub fn second_head(doc: &[u8], at: usize) -> Head
-    ensures { λ r. ⌜ r ≡ headOf (bind (readHead (now (doc .entry)) at) λ _ n. readHead (now (doc .entry)) n) ⌝ }
-{
-    let first = Reader::new(doc, at);
-    let next = past(first.head(), at);
-    first.moved(next).head()
 }
