@@ -42,37 +42,37 @@ module _ {A B : Type 0} (P : Fault → ℕ → Type 0) where
 
 -- the faults of an item: 2 to 6, and 7 at a place that Deep names
 pub data Inner (Deep : ℕ → Type 0) : Fault → ℕ → Type 0 where
-  torn : {p : ℕ} → Inner Deep Truncated p
-  padded : {p : ℕ} → Inner Deep NonCanonical p
-  misfiled : {p : ℕ} → Inner Deep Unexpected p
-  outsize : {p : ℕ} → Inner Deep OutOfRange p
-  smudged : {p : ℕ} → Inner Deep OutsideAlphabet p
-  nested : {p : ℕ} → Deep p → Inner Deep TooDeep p
+  truncated : {p : ℕ} → Inner Deep Truncated p
+  non-canonical : {p : ℕ} → Inner Deep NonCanonical p
+  unexpected : {p : ℕ} → Inner Deep Unexpected p
+  out-of-range : {p : ℕ} → Inner Deep OutOfRange p
+  outside-alphabet : {p : ℕ} → Inner Deep OutsideAlphabet p
+  deep-start : {p : ℕ} → Deep p → Inner Deep TooDeep p
 
 pub inner-more : {D E : ℕ → Type 0} → ((p : ℕ) → D p → E p) → {f : Fault} {p : ℕ} → Inner D f p → Inner E f p
-inner-more h torn = torn
-inner-more h padded = padded
-inner-more h misfiled = misfiled
-inner-more h outsize = outsize
-inner-more h smudged = smudged
-inner-more h (nested {p = p} d) = nested (h p d)
+inner-more h truncated = truncated
+inner-more h non-canonical = non-canonical
+inner-more h unexpected = unexpected
+inner-more h out-of-range = out-of-range
+inner-more h outside-alphabet = outside-alphabet
+inner-more h (deep-start {p = p} d) = deep-start (h p d)
 
 -- heads have only 2, 3 and 4
 module _ {D : ℕ → Type 0} (s : List ℕ) (at : ℕ) where
   long-blames : (major : ℕ) (be : List ℕ → ℕ → ℕ) (width least : ℕ) → Blames (Inner D) (longHead major be width least s at)
   unfolding longHead settled
   long-blames major be width least =
-      blames-pick (Inner D) _ _ _ (λ _. blames-refused (Inner D) _ _ torn) λ _.
-      blames-pick (Inner D) _ _ _ (λ _. blames-refused (Inner D) _ _ padded) λ _. blames-ok (Inner D) _ _
+      blames-pick (Inner D) _ _ _ (λ _. blames-refused (Inner D) _ _ truncated) λ _.
+      blames-pick (Inner D) _ _ _ (λ _. blames-refused (Inner D) _ _ non-canonical) λ _. blames-ok (Inner D) _ _
 
   pub head-blames : Blames (Inner D) (readHead s at)
   unfolding readHead headWith wideHead simple
   head-blames =
-      blames-pick (Inner D) _ _ _ (λ _. blames-refused (Inner D) _ _ torn) λ _.
-      blames-pick (Inner D) _ _ _ (λ _. blames-refused (Inner D) _ _ padded) λ _.
+      blames-pick (Inner D) _ _ _ (λ _. blames-refused (Inner D) _ _ truncated) λ _.
+      blames-pick (Inner D) _ _ _ (λ _. blames-refused (Inner D) _ _ non-canonical) λ _.
       blames-pick (Inner D) _ _ _ (λ _.
-      blames-pick (Inner D) _ _ _ (λ _. blames-refused (Inner D) _ _ misfiled) λ _.
-      blames-pick (Inner D) _ _ _ (λ _. blames-refused (Inner D) _ _ misfiled) λ _. blames-ok (Inner D) _ _) λ _.
+      blames-pick (Inner D) _ _ _ (λ _. blames-refused (Inner D) _ _ unexpected) λ _.
+      blames-pick (Inner D) _ _ _ (λ _. blames-refused (Inner D) _ _ unexpected) λ _. blames-ok (Inner D) _ _) λ _.
       blames-pick (Inner D) _ _ _ (λ _. blames-ok (Inner D) _ _) λ _.
       blames-pick (Inner D) _ _ _ (λ _. long-blames _ _ _ _) λ _.
       blames-pick (Inner D) _ _ _ (λ _. long-blames _ _ _ _) λ _.
@@ -80,4 +80,4 @@ module _ {D : ℕ → Type 0} (s : List ℕ) (at : ℕ) where
 
   pub kind-blames : (due : ℕ) → Blames (Inner D) (readKind due s at)
   unfolding readKind
-  kind-blames due = blames-bind (Inner D) _ _ head-blames λ h n _. blames-pick (Inner D) _ _ _ (λ _. blames-ok (Inner D) _ _) (λ _. blames-refused (Inner D) _ _ misfiled)
+  kind-blames due = blames-bind (Inner D) _ _ head-blames λ h n _. blames-pick (Inner D) _ _ _ (λ _. blames-ok (Inner D) _ _) (λ _. blames-refused (Inner D) _ _ unexpected)

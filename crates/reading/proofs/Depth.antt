@@ -13,7 +13,7 @@ use Rattle.reading.specs.Refusals.{Opens, DeepExpr, here, operand, left,
 use Rattle.reading.specs.declared.fault.Fault.{Fault}
 use Rattle.reading.specs.declared.fault.Fault.the-variants.{TooDeep}
 use Rattle.reading.proofs.Rules.{pick-true, pick-false, bind-ok, bind-out, map-out}
-use Rattle.reading.proofs.Blames.{Blames, Inner, misfiled, nested, inner-more, blames-refused, blames-bind, blames-map}
+use Rattle.reading.proofs.Blames.{Blames, Inner, unexpected, deep-start, inner-more, blames-refused, blames-bind, blames-map}
 use Rattle.reading.proofs.Formats.{Laws, Never}
 use Rattle.reading.proofs.ExprLaws.{path-laws}
 use Rattle.reading.proofs.PatternLaws.{pattern-laws}
@@ -31,22 +31,22 @@ flat-blames l s at f p e = inner-more (λ q z. absurd z) (l .blames s at f p e)
 
 -- 7, and no other number
 the-place : {D : ℕ → Type 0} {p : ℕ} → Inner D TooDeep p → D p
-the-place (nested d) = d
+the-place (deep-start d) = d
 
 module _ (s : List ℕ) where
   expr-deep : (d at : ℕ) → Blames (Inner (DeepExpr s d at)) (readExpr d s at)
   unfolding readExpr enumOf exprCases
-  expr-deep zero at = blames-refused (Inner (DeepExpr s 0 at)) TooDeep at (nested here)
+  expr-deep zero at = blames-refused (Inner (DeepExpr s 0 at)) TooDeep at (deep-start here)
   expr-deep (suc d) at =
       let P : Fault → ℕ → Type 0 = Inner (DeepExpr s (suc d) at) in
       blames-bind P _ _ (tag-blames s at) λ t m e.
-      row-blames _ _ _ _ _ P s t m misfiled (λ _ _. number-blames s m maxU64)
-      (row-blames _ _ _ _ _ P s t m misfiled (λ _ _. flat-blames bool-laws s m)
-      (row-blames _ _ _ _ _ P s t m misfiled (λ _ _. flat-blames path-laws s m)
-      (row-blames _ _ _ _ _ P s t m misfiled (λ c i.
+      row-blames _ _ _ _ _ P s t m unexpected (λ _ _. number-blames s m maxU64)
+      (row-blames _ _ _ _ _ P s t m unexpected (λ _ _. flat-blames bool-laws s m)
+      (row-blames _ _ _ _ _ P s t m unexpected (λ _ _. flat-blames path-laws s m)
+      (row-blames _ _ _ _ _ P s t m unexpected (λ c i.
       let o : Opens s at 3 3 m = record { tag = t; tagged = e; is = c; has = i } in
       then-blames P _ _ s m (case-blames s m _) λ op k q f p r. inner-more (λ p z. operand o q z) (expr-deep d k f p r))
-      (row-blames _ _ _ _ _ P s t m misfiled (λ c i.
+      (row-blames _ _ _ _ _ P s t m unexpected (λ c i.
       let o : Opens s at 4 4 m = record { tag = t; tagged = e; is = c; has = i } in
       then-blames P _ _ s m (case-blames s m _) λ op k q.
       then-blames P _ _ s k (λ f p r. inner-more (λ p z. left o q z) (expr-deep d k f p r)) λ l j w f p r. inner-more (λ p z. right o q w z) (expr-deep d j f p r))
@@ -112,24 +112,24 @@ module _ (s : List ℕ) where
 
   formula-deep : (d at : ℕ) → Blames (Inner (DeepFormula s d at)) (readFormula d s at)
   unfolding readFormula enumOf formulaCases
-  formula-deep zero at = blames-refused (Inner (DeepFormula s 0 at)) TooDeep at (nested here)
+  formula-deep zero at = blames-refused (Inner (DeepFormula s 0 at)) TooDeep at (deep-start here)
   formula-deep (suc d) at =
       let P : Fault → ℕ → Type 0 = Inner (DeepFormula s (suc d) at) in
       blames-bind P _ _ (tag-blames s at) λ t m e.
       let o : (k n : ℕ) → t .case ≡ k → t .count ≡ n → Opens s at k n m = λ k n c i. record { tag = t; tagged = e; is = c; has = i } in
-      row-blames _ _ _ _ _ P s t m misfiled (λ _ _. flat-blames pattern-laws s m)
-      (row-blames _ _ _ _ _ P s t m misfiled (λ _ _. flat-blames pattern-laws s m)
-      (row-blames _ _ _ _ _ P s t m misfiled (λ c i f p r. inner-more (λ p z. expr (o 2 2 c i) z) (expr-deep d m f p r))
-      (row-blames _ _ _ _ _ P s t m misfiled (λ c i. one-deep d at (formula-deep d) not m (o _ _ c i))
-      (row-blames _ _ _ _ _ P s t m misfiled (λ c i. two-deep d at (formula-deep d) and m (o _ _ c i))
-      (row-blames _ _ _ _ _ P s t m misfiled (λ c i. two-deep d at (formula-deep d) or m (o _ _ c i))
-      (row-blames _ _ _ _ _ P s t m misfiled (λ c i. two-deep d at (formula-deep d) implies m (o _ _ c i))
-      (row-blames _ _ _ _ _ P s t m misfiled (λ c i. one-deep d at (formula-deep d) next m (o _ _ c i))
-      (row-blames _ _ _ _ _ P s t m misfiled (λ c i. one-deep d at (formula-deep d) always m (o _ _ c i))
-      (row-blames _ _ _ _ _ P s t m misfiled (λ c i. bounded-deep d at (formula-deep d) bounded-always m (o _ _ c i))
-      (row-blames _ _ _ _ _ P s t m misfiled (λ c i. bounded-deep d at (formula-deep d) bounded-eventually m (o _ _ c i))
-      (row-blames _ _ _ _ _ P s t m misfiled (λ c i. one-deep d at (formula-deep d) eventually m (o _ _ c i))
-      (row-blames _ _ _ _ _ P s t m misfiled (λ c i. two-deep d at (formula-deep d) until m (o _ _ c i))
+      row-blames _ _ _ _ _ P s t m unexpected (λ _ _. flat-blames pattern-laws s m)
+      (row-blames _ _ _ _ _ P s t m unexpected (λ _ _. flat-blames pattern-laws s m)
+      (row-blames _ _ _ _ _ P s t m unexpected (λ c i f p r. inner-more (λ p z. expr (o 2 2 c i) z) (expr-deep d m f p r))
+      (row-blames _ _ _ _ _ P s t m unexpected (λ c i. one-deep d at (formula-deep d) not m (o _ _ c i))
+      (row-blames _ _ _ _ _ P s t m unexpected (λ c i. two-deep d at (formula-deep d) and m (o _ _ c i))
+      (row-blames _ _ _ _ _ P s t m unexpected (λ c i. two-deep d at (formula-deep d) or m (o _ _ c i))
+      (row-blames _ _ _ _ _ P s t m unexpected (λ c i. two-deep d at (formula-deep d) implies m (o _ _ c i))
+      (row-blames _ _ _ _ _ P s t m unexpected (λ c i. one-deep d at (formula-deep d) next m (o _ _ c i))
+      (row-blames _ _ _ _ _ P s t m unexpected (λ c i. one-deep d at (formula-deep d) always m (o _ _ c i))
+      (row-blames _ _ _ _ _ P s t m unexpected (λ c i. bounded-deep d at (formula-deep d) bounded-always m (o _ _ c i))
+      (row-blames _ _ _ _ _ P s t m unexpected (λ c i. bounded-deep d at (formula-deep d) bounded-eventually m (o _ _ c i))
+      (row-blames _ _ _ _ _ P s t m unexpected (λ c i. one-deep d at (formula-deep d) eventually m (o _ _ c i))
+      (row-blames _ _ _ _ _ P s t m unexpected (λ c i. two-deep d at (formula-deep d) until m (o _ _ c i))
       (none-blames s t m)))))))))))))
 
   pub formula-too-deep : (d at p : ℕ) → (readFormula d s at ≡ refused TooDeep p) ↔ DeepFormula s d at p

@@ -18,7 +18,7 @@ use Rattle.reading.proofs.Rules.{pick-true, pick-false, bind-ok, map-ok
 use Rattle.reading.proofs.Gives.{Gives, gives-refused, gives-pick, gives-bind, gives-map}
 use Rattle.reading.proofs.At.{At, at-join, at-split}
 use Rattle.reading.proofs.HeadSound.{Bytes}
-use Rattle.reading.proofs.Blames.{Blames, Inner, blames-refused, blames-pick, blames-bind, blames-map, misfiled}
+use Rattle.reading.proofs.Blames.{Blames, Inner, blames-refused, blames-pick, blames-bind, blames-map, unexpected}
 use Rattle.reading.proofs.Items.{items-join, array-item, plain-item}
 use Rattle.reading.proofs.Formats.{Is, Laws, Format}
 use Rattle.reading.proofs.ItemLaws.{kind-sound, kind-complete, tag-kinds, tag-blames}
@@ -84,7 +84,7 @@ module _ {A : Type 0} (s : List ℕ) (t : Tag) (n : ℕ) where
 
   pub none-blames : {D : ℕ → Type 0} → Blames {A = A} (Inner D) (unknown s t n)
   unfolding unknown
-  none-blames {D} = blames-refused (Inner D) _ _ misfiled
+  none-blames {D} = blames-refused (Inner D) _ _ unexpected
 
 module _ {A : Type 0} {enc : A → List ℕ} {Within : A → Type 0} {D : List ℕ → ℕ → Type 0} where
   -- no case
@@ -119,7 +119,7 @@ module _ {A : Type 0} {enc : A → List ℕ} {Within : A → Type 0} {D : List �
     row-items s t n = row-gives _ _ _ _ _ (λ _ m. Filled s t n m) s t n (λ q c x m e. record { fields = F .count; count = c; items = F .laws .items s n x m e }) (rest .items s t n)
 
     pub rows-blame : (s : List ℕ) (t : Tag) (n : ℕ) → Blames (Inner (D s)) (row-read s t n)
-    rows-blame s t n = row-blames _ _ _ _ _ (Inner (D s)) s t n misfiled (λ _ _. F .laws .blames s n) (rest .blames s t n)
+    rows-blame s t n = row-blames _ _ _ _ _ (Inner (D s)) s t n unexpected (λ _ _. F .laws .blames s n) (rest .blames s t n)
 
     abbrev pub Here : A → Type 0
     Here a = (x : X) × (make x ≡ a)

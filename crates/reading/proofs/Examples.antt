@@ -49,9 +49,9 @@ unfolding top readFormula formulaCases enumOf row sized readTag readKind readHea
 example-count = refl
 
 -- the case item is missing: 2 at it
-example-torn : top (129 ∷ []) ≡ refused Truncated 1
+example-truncated : top (129 ∷ []) ≡ refused Truncated 1
 unfolding top readFormula enumOf readTag readKind readHead headWith bind pick
-example-torn = refl
+example-truncated = refl
 
 -- a formula inside where no level is left: 7 at it, before its missing bytes; and so for an expression
 example-deep : readFormula 1 (130 ∷ 3 ∷ []) 0 ≡ refused TooDeep 2
@@ -63,9 +63,9 @@ unfolding readFormula formulaCases readExpr enumOf row sized readTag readKind re
 example-deep-expr = refl
 
 -- a longer head than needed: 3
-example-padded : readKind 4 (152 ∷ 3 ∷ []) 0 ≡ refused NonCanonical 0
+example-non-canonical : readKind 4 (152 ∷ 3 ∷ []) 0 ≡ refused NonCanonical 0
 unfolding readKind readHead headWith wideHead longHead settled be1 bind pick
-example-padded = refl
+example-non-canonical = refl
 
 -- a path of nine segments: 5 at its head, before any of them
 example-path : readPath (137 ∷ []) 0 ≡ refused OutOfRange 0

@@ -12,7 +12,7 @@ use Rattle.reading.specs.declared.fault.Fault.the-variants.{TooDeep}
 use Rattle.reading.proofs.Gives.{Gives, gives-refused}
 use Rattle.reading.proofs.At.{At}
 use Rattle.reading.proofs.HeadSound.{Bytes}
-use Rattle.reading.proofs.Blames.{Blames, Inner, torn, padded, misfiled, outsize, smudged, nested, inner-more, blames-refused}
+use Rattle.reading.proofs.Blames.{Blames, Inner, truncated, non-canonical, unexpected, out-of-range, outside-alphabet, deep-start, inner-more, blames-refused}
 use Rattle.reading.proofs.Items.{items-inside}
 
 -- the content x is within its limits, and stands from at to n
@@ -54,12 +54,12 @@ module _ {A : Type 0} {read : Reader A} {enc : A → List ℕ} {Within : A → T
   own l = record { sound = l .sound; complete = l .complete; items = l .items; blames = λ s at f p e. owned s at f p e (l .blames s at f p e) }
     where
       owned : (s : List ℕ) (at : ℕ) (f : Fault) (p : ℕ) → read s at ≡ refused f p → Inner (D s) f p → Inner (From read s) f p
-      owned s at f p e torn = torn
-      owned s at f p e padded = padded
-      owned s at f p e misfiled = misfiled
-      owned s at f p e outsize = outsize
-      owned s at f p e smudged = smudged
-      owned s at f p e (nested d) = nested (at, e)
+      owned s at f p e truncated = truncated
+      owned s at f p e non-canonical = non-canonical
+      owned s at f p e unexpected = unexpected
+      owned s at f p e out-of-range = out-of-range
+      owned s at f p e outside-alphabet = outside-alphabet
+      owned s at f p e (deep-start d) = deep-start (at, e)
 
   -- the same encoding, said in another way
   pub by-bytes : {enc' : A → List ℕ} → ((x : A) → enc' x ≡ enc x) → Laws read enc Within count D → Laws read enc' Within count D
@@ -87,5 +87,5 @@ refusing {A} enc = record {
   sound = λ s B at h. gives-refused _ _ _;
   complete = λ s at x n w a. absurd w;
   items = λ s at. gives-refused _ _ _;
-  blames = λ s at. blames-refused (Inner (From (deepest {A = A}) s)) _ _ (nested (at, refl));
+  blames = λ s at. blames-refused (Inner (From (deepest {A = A}) s)) _ _ (deep-start (at, refl));
 }

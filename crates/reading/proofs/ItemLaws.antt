@@ -15,7 +15,7 @@ use Rattle.reading.proofs.Gives.{Gives, gives-ok, gives-refused, gives-
 use Rattle.reading.proofs.At.{At}
 use Rattle.reading.proofs.HeadSound.{Bytes, head-sound}
 use Rattle.reading.proofs.HeadComplete.{head-complete}
-use Rattle.reading.proofs.Blames.{Blames, Inner, blames-ok, blames-refused, blames-pick, blames-bind, kind-blames, misfiled, outsize}
+use Rattle.reading.proofs.Blames.{Blames, Inner, blames-ok, blames-refused, blames-pick, blames-bind, kind-blames, unexpected, out-of-range}
 use Rattle.reading.proofs.Items.{plain-item}
 use Rattle.reading.proofs.Formats.{Is, Laws, Never}
 
@@ -96,25 +96,25 @@ module _ (s : List ℕ) (at : ℕ) where
 module _ {D : ℕ → Type 0} (s : List ℕ) (at : ℕ) where
   pub number-blames : (limit : ℕ) → Blames (Inner D) (readNumber limit s at)
   unfolding readNumber
-  number-blames limit = blames-bind (Inner D) _ _ (kind-blames s at 0) λ v n e. blames-pick (Inner D) _ _ _ (λ _. blames-refused (Inner D) _ _ outsize) (λ _. blames-ok (Inner D) _ _)
+  number-blames limit = blames-bind (Inner D) _ _ (kind-blames s at 0) λ v n e. blames-pick (Inner D) _ _ _ (λ _. blames-refused (Inner D) _ _ out-of-range) (λ _. blames-ok (Inner D) _ _)
 
   pub count-blames : (limit : ℕ) → Blames (Inner D) (readCount limit s at)
   unfolding readCount
-  count-blames limit = blames-bind (Inner D) _ _ (kind-blames s at 4) λ v n e. blames-pick (Inner D) _ _ _ (λ _. blames-refused (Inner D) _ _ outsize) (λ _. blames-ok (Inner D) _ _)
+  count-blames limit = blames-bind (Inner D) _ _ (kind-blames s at 4) λ v n e. blames-pick (Inner D) _ _ _ (λ _. blames-refused (Inner D) _ _ out-of-range) (λ _. blames-ok (Inner D) _ _)
 
   pub case-blames : (cases : ℕ) → Blames (Inner D) (readCase cases s at)
   unfolding readCase
-  case-blames cases = blames-bind (Inner D) _ _ (kind-blames s at 0) λ v n e. blames-pick (Inner D) _ _ _ (λ _. blames-ok (Inner D) _ _) (λ _. blames-refused (Inner D) _ _ misfiled)
+  case-blames cases = blames-bind (Inner D) _ _ (kind-blames s at 0) λ v n e. blames-pick (Inner D) _ _ _ (λ _. blames-ok (Inner D) _ _) (λ _. blames-refused (Inner D) _ _ unexpected)
 
   pub fields-blames : (k : ℕ) → Blames (Inner D) (readFields k s at)
   unfolding readFields
-  fields-blames k = blames-bind (Inner D) _ _ (kind-blames s at 4) λ v n e. blames-pick (Inner D) _ _ _ (λ _. blames-ok (Inner D) _ _) (λ _. blames-refused (Inner D) _ _ misfiled)
+  fields-blames k = blames-bind (Inner D) _ _ (kind-blames s at 4) λ v n e. blames-pick (Inner D) _ _ _ (λ _. blames-ok (Inner D) _ _) (λ _. blames-refused (Inner D) _ _ unexpected)
 
   pub tag-blames : Blames (Inner D) (readTag s at)
   unfolding readTag
   tag-blames =
       blames-bind (Inner D) _ _ (kind-blames s at 4) λ count p q.
-      blames-pick (Inner D) _ _ _ (λ _. blames-refused (Inner D) _ _ misfiled) λ _.
+      blames-pick (Inner D) _ _ _ (λ _. blames-refused (Inner D) _ _ unexpected) λ _.
       blames-bind (Inner D) _ _ (kind-blames s p 0) λ case n r. blames-ok (Inner D) _ _
 
 number-complete : (limit : ℕ) → limit ≤ maxU64 → (s : List ℕ) (at v n : ℕ) → v ≤ limit → At s at (encHead 0 v) n → readNumber limit s at ≡ ok v n
@@ -160,7 +160,7 @@ unfolding readBool
 bool-blames {D} s at =
     blames-bind (Inner D) _ _ (kind-blames s at 7) λ v n e.
     blames-pick (Inner D) _ _ _ (λ _. blames-ok (Inner D) _ _) λ _.
-    blames-pick (Inner D) _ _ _ (λ _. blames-ok (Inner D) _ _) λ _. blames-refused (Inner D) _ _ misfiled
+    blames-pick (Inner D) _ _ _ (λ _. blames-ok (Inner D) _ _) λ _. blames-refused (Inner D) _ _ unexpected
 
 pub bool-laws : Laws readBool encBool (λ _. Unit {0}) 1 Never
 bool-laws = record {

@@ -9,7 +9,7 @@ use Rattle.reading.specs.Read.{Reader, ok}
 use Rattle.reading.specs.Item.{readNumber, readIrVersion}
 use Rattle.reading.specs.Combine.{_then_, recordOf, listOf}
 use Rattle.reading.specs.Items.{Items}
-use Rattle.reading.specs.Refusals.{Unborn}
+use Rattle.reading.specs.Refusals.{NewerVersion}
 use Rattle.reading.specs.declared.fault.Fault.{Fault}
 use Rattle.reading.specs.declared.fault.Fault.the-variants.{UnknownVersion}
 use Rattle.reading.proofs.Rules.{pick-false, bind-ok, map-ok}
@@ -110,10 +110,10 @@ pub ir-items : (s : List ℕ) (at : ℕ) → Gives (λ _ n. Items s 1 at n) (rea
 ir-items s at x n e = plain-laws .items s at x n (ir-agrees s at x n e)
 
 -- a fault of an item, or 9
-pub ir-blames : (s : List ℕ) (at : ℕ) → Blames (λ f p. Inner (Nested s) f p ⊎ ((f ≡ UnknownVersion) × Unborn s at p)) (readIr s at)
+pub ir-blames : (s : List ℕ) (at : ℕ) → Blames (λ f p. Inner (Nested s) f p ⊎ ((f ≡ UnknownVersion) × NewerVersion s at p)) (readIr s at)
 unfolding readIr recordOf _then_ readIrVersion
 ir-blames s at =
-    let Q : Fault → ℕ → Type 0 = λ f p. Inner (Nested s) f p ⊎ ((f ≡ UnknownVersion) × Unborn s at p) in
+    let Q : Fault → ℕ → Type 0 = λ f p. Inner (Nested s) f p ⊎ ((f ≡ UnknownVersion) × NewerVersion s at p) in
     blames-bind Q _ _ (λ f p e. inl (fields-blames s at 2 f p e)) λ u n o.
     blames-map Q _ _
     (blames-bind Q _ _

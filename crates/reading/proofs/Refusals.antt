@@ -16,13 +16,13 @@ use Rattle.reading.specs.Expr.{readExpr}
 use Rattle.reading.specs.Formula.{readFormula}
 use Rattle.reading.specs.Module.{Ir, readIr, encIr}
 use Rattle.reading.specs.Document.{readDocument}
-use Rattle.reading.specs.Refusals.{Unborn, Overhang, Longer}
+use Rattle.reading.specs.Refusals.{NewerVersion, Followed, Longer}
 use Rattle.reading.specs.declared.fault.Fault.{Fault}
 use Rattle.reading.specs.declared.fault.Fault.the-variants.{TooLong, Truncated, NonCanonical, Unexpected, OutOfRange, OutsideAlphabet, TooDeep, Trailing, UnknownVersion}
 use Rattle.reading.proofs.Rules.{pick-true, pick-false, bind-ok, bind-out, map-out}
 use Rattle.reading.proofs.At.{At, at-here}
 use Rattle.reading.proofs.HeadSound.{Bytes}
-use Rattle.reading.proofs.Blames.{Blames, Inner, torn, padded, misfiled, outsize, smudged, nested, blames-ok, blames-refused, blames-pick, blames-bind}
+use Rattle.reading.proofs.Blames.{Blames, Inner, truncated, non-canonical, unexpected, out-of-range, outside-alphabet, deep-start, blames-ok, blames-refused, blames-pick, blames-bind}
 use Rattle.reading.proofs.Items.{kind-head, head-short}
 use Rattle.reading.proofs.ModuleLaws.{Nested, ir-sound, ir-complete, ir-blames}
 use Rattle.reading.proofs.ItemLaws.{fields-kind}
@@ -78,56 +78,56 @@ answered s = one (readDocument s) refl
 
 item-number : {D : ℕ → Type 0} {f : Fault} {p : ℕ} → Inner D f p → (2 ≤ number f) × (number f ≤ 7)
 unfolding number
-item-number torn = (omega arith, omega arith)
-item-number padded = (omega arith, omega arith)
-item-number misfiled = (omega arith, omega arith)
-item-number outsize = (omega arith, omega arith)
-item-number smudged = (omega arith, omega arith)
-item-number (nested d) = (omega arith, omega arith)
+item-number truncated = (omega arith, omega arith)
+item-number non-canonical = (omega arith, omega arith)
+item-number unexpected = (omega arith, omega arith)
+item-number out-of-range = (omega arith, omega arith)
+item-number outside-alphabet = (omega arith, omega arith)
+item-number (deep-start d) = (omega arith, omega arith)
 
 -- where a refusal comes from
 data Blame (s : List ℕ) : Fault → ℕ → Type 0 where
-  bulky : maxDocument < length s → Blame s TooLong 0
+  over-long : maxDocument < length s → Blame s TooLong 0
   item : {f : Fault} {p : ℕ} → length s ≤ maxDocument → readIr s 0 ≡ refused f p → Inner (Nested s) f p → Blame s f p
-  unborn : {p : ℕ} → length s ≤ maxDocument → Unborn s 0 p → Blame s UnknownVersion p
-  overhang : {p : ℕ} → length s ≤ maxDocument → Overhang s p → Blame s Trailing p
+  newer-version : {p : ℕ} → length s ≤ maxDocument → NewerVersion s 0 p → Blame s UnknownVersion p
+  followed : {p : ℕ} → length s ≤ maxDocument → Followed s p → Blame s Trailing p
 
 module _ (s : List ℕ) where
-  ir-blame : length s ≤ maxDocument → (f : Fault) (p : ℕ) → readIr s 0 ≡ refused f p → Inner (Nested s) f p ⊎ ((f ≡ UnknownVersion) × Unborn s 0 p) → Blame s f p
+  ir-blame : length s ≤ maxDocument → (f : Fault) (p : ℕ) → readIr s 0 ≡ refused f p → Inner (Nested s) f p ⊎ ((f ≡ UnknownVersion) × NewerVersion s 0 p) → Blame s f p
   ir-blame h f p e (inl i) = item h e i
-  ir-blame h f p e (inr u) = subst (λ (z : Fault). Blame s z p) (sym (u .0)) (unborn h (u .1))
+  ir-blame h f p e (inr u) = subst (λ (z : Fault). Blame s z p) (sym (u .0)) (newer-version h (u .1))
 
   document-blames : Blames (Blame s) (readDocument s)
   unfolding readDocument
   document-blames =
-      blames-pick (Blame s) _ _ _ (λ q. blames-refused (Blame s) _ _ (bulky (ltb-true _ _ q))) λ q.
+      blames-pick (Blame s) _ _ _ (λ q. blames-refused (Blame s) _ _ (over-long (ltb-true _ _ q))) λ q.
       blames-bind (Blame s) _ _ (λ f p e. ir-blame (ltb-false _ _ q) f p e (ir-blames s 0 f p e)) λ x n e.
-      blames-pick (Blame s) _ _ _ (λ r. blames-refused (Blame s) _ _ (overhang (ltb-false _ _ q) (record { content = x; reads = e; more = ltb-true _ _ r }))) (λ _. blames-ok (Blame s) _ _)
+      blames-pick (Blame s) _ _ _ (λ r. blames-refused (Blame s) _ _ (followed (ltb-false _ _ q) (record { content = x; reads = e; more = ltb-true _ _ r }))) (λ _. blames-ok (Blame s) _ _)
 
   long-blame : {p : ℕ} → Blame s TooLong p → (maxDocument < length s) × (p ≡ 0)
   unfolding number
-  long-blame (bulky h) = (h, refl)
+  long-blame (over-long h) = (h, refl)
   long-blame (item _ _ i) = let h = item-number i in absurd (omega arith)
 
-  trailing-blame : {p : ℕ} → Blame s Trailing p → (length s ≤ maxDocument) × Overhang s p
+  trailing-blame : {p : ℕ} → Blame s Trailing p → (length s ≤ maxDocument) × Followed s p
   unfolding number
-  trailing-blame (overhang h o) = (h, o)
+  trailing-blame (followed h o) = (h, o)
   trailing-blame (item _ _ i) = let h = item-number i in absurd (omega arith)
 
-  version-blame : {p : ℕ} → Blame s UnknownVersion p → (length s ≤ maxDocument) × Unborn s 0 p
+  version-blame : {p : ℕ} → Blame s UnknownVersion p → (length s ≤ maxDocument) × NewerVersion s 0 p
   unfolding number
-  version-blame (unborn h u) = (h, u)
+  version-blame (newer-version h u) = (h, u)
   version-blame (item _ _ i) = let h = item-number i in absurd (omega arith)
 
   deep-blame : {p : ℕ} → Blame s TooDeep p → Nested s p
-  deep-blame (item _ _ (nested d)) = d
+  deep-blame (item _ _ (deep-start d)) = d
 
   item-blame : {f : Fault} {p : ℕ} → 2 ≤ number f → number f ≤ 7 → Blame s f p → (length s ≤ maxDocument) × (readIr s 0 ≡ refused f p)
   unfolding number
-  item-blame l u (bulky h) = absurd (omega arith)
+  item-blame l u (over-long h) = absurd (omega arith)
   item-blame l u (item h e i) = (h, e)
-  item-blame l u (unborn h o) = absurd (omega arith)
-  item-blame l u (overhang h o) = absurd (omega arith)
+  item-blame l u (newer-version h o) = absurd (omega arith)
+  item-blame l u (followed h o) = absurd (omega arith)
 
   -- 2 to 7: the first fault of the items, read from left to right
   pub item-refused : (f : Fault) (p : ℕ) → 2 ≤ number f → number f ≤ 7 → (readDocument s ≡ refused f p) ↔ ((length s ≤ maxDocument) × (readIr s 0 ≡ refused f p))
@@ -140,7 +140,7 @@ module _ (s : List ℕ) where
   too-long p = (λ e. long-blame (document-blames TooLong p e), λ h. rw (lt-ltb maxDocument (length s) (h .0), pick-true, h .1))
 
   -- 8
-  pub trailing : (p : ℕ) → (readDocument s ≡ refused Trailing p) ↔ ((length s ≤ maxDocument) × Overhang s p)
+  pub trailing : (p : ℕ) → (readDocument s ≡ refused Trailing p) ↔ ((length s ≤ maxDocument) × Followed s p)
   unfolding readDocument
   trailing p = (
     λ e. trailing-blame (document-blames Trailing p e),
@@ -149,7 +149,7 @@ module _ (s : List ℕ) where
   )
 
   -- 9: the version stands after the array's head, which is one byte
-  pub unknown-version : (p : ℕ) → (readDocument s ≡ refused UnknownVersion p) ↔ ((length s ≤ maxDocument) × Unborn s 0 p)
+  pub unknown-version : (p : ℕ) → (readDocument s ≡ refused UnknownVersion p) ↔ ((length s ≤ maxDocument) × NewerVersion s 0 p)
   unfolding readDocument readIr recordOf _then_ readIrVersion
   unknown-version p = (
     λ e. version-blame (document-blames UnknownVersion p e),
@@ -158,7 +158,7 @@ module _ (s : List ℕ) where
         rw (le-ltb maxDocument (length s) (h .0), pick-false, u .opens, bind-ok, u .number, bind-ok, lt-ltb maxVersion (u .version) (u .newer), pick-true, bind-out, map-out, bind-out),
   )
 
-  pub version-place : {p : ℕ} → Unborn s 0 p → p ≡ 1
+  pub version-place : {p : ℕ} → NewerVersion s 0 p → p ≡ 1
   version-place {p} u = head-short s 0 _ p (kind-head s 0 4 2 p (fields-kind s 0 2 tt p (u .opens))) (omega arith)
 
   -- 7: a top expression or formula is too deep
@@ -166,15 +166,15 @@ module _ (s : List ℕ) where
   too-deep p e = deep-blame (document-blames TooDeep p e)
 
   -- 8, by the bytes
-  pub trailing-bytes : Bytes s → (p : ℕ) → Overhang s p ↔ Longer s p
+  pub trailing-bytes : Bytes s → (p : ℕ) → Followed s p ↔ Longer s p
   trailing-bytes B p = (longer, shorter)
     where
-      longer : Overhang s p → Longer s p
+      longer : Followed s p → Longer s p
       longer o =
           let k = ir-sound s B 0 (o .content) p (o .reads) in
           record { content = o .content; within = k .within; rest = drop p s; bytes = k .there .bytes; more = omega (arith, length-drop p s, o .more); place = omega (arith, k .there .end) }
 
-      shorter : Longer s p → Overhang s p
+      shorter : Longer s p → Followed s p
       shorter l =
           let x = l .content in
           let q : 0 + length (encIr x) ≡ p = omega (arith, l .place) in

@@ -25,6 +25,7 @@ use Rattle.reading.specs.declared.step.Step.{Step}
 use Rattle.reading.specs.declared.step.Step.the-variants as step
 use Rattle.reading.proofs.Rules.{pick-true, pick-false, bind-ok, bind-out}
 use Rattle.reading.proofs.Gives.{Gives, gives-ok, gives-refused, gives-pick, gives-bind, head-spans, kind-fits}
+use Rattle.reading.proofs.Items.{items-room}
 use Rattle.reading.proofs.Answers.{num, out, hd, hd-out, answer-ok, answer-out, stands-ok, stands-out}
 
 -- after one head
@@ -122,12 +123,6 @@ module _ (left : ℕ) (s : List ℕ) (at : ℕ) (w : Read (Unit {0})) (decides :
     skip-out q h = h ∙ ap stepOf q ∙ sym (rw (first, out _ e q, bind-out, stands-out))
 
 -- items that stand there are passed
-room : {s : List ℕ} {k at n : ℕ} → Items s k at n → at + k ≤ n
-room none = omega arith
-room {s} {k} {at} (more h m e r) =
-    let l = room r in
-    omega (arith, head-spans s at h m e .0)
-
 passed-head : (s : List ℕ) (k at : ℕ) (h : Hd) (m : ℕ) → readHead s at ≡ ok h m → k + inside h + payload h ≤ length s - m → skipHead k s at ≡ ok (k + inside h) (m + payload h)
 unfolding skipHead skipBody
 passed-head s k at h m e t = rw (e, bind-ok, le-ltb (length s - m) (k + inside h + payload h) t, pick-false)
@@ -135,7 +130,7 @@ passed-head s k at h m e t = rw (e, bind-ok, le-ltb (length s - m) (k + inside h
 pub items-passed : {s : List ℕ} {k at n : ℕ} → Items s k at n → n ≤ length s → skipItems k s at ≡ ok tt n
 items-passed {s} {k} {at} none f = skip-zero s at
 items-passed {s} {k} {at} (more {k = j} h m e r) f =
-    let l = room r in
+    let l = items-room r in
     let g = head-spans s at h m e in
     let t : j + inside h + payload h ≤ length s - m = omega (arith, g .1) in
     skip-suc j s at ∙ rw (passed-head s j at h m e t, bind-ok) (items-passed r f)

@@ -16,7 +16,7 @@ use Rattle.reading.specs.Items.{Items}
 use Rattle.reading.proofs.Rules.{pick-true, pick-false, bind-ok}
 use Rattle.reading.proofs.Gives.{Gives, gives-ok, gives-refused, gives-pick, gives-bind, kind-fits}
 use Rattle.reading.proofs.At.{At, at-join, at-split}
-use Rattle.reading.proofs.Blames.{Blames, Inner, blames-ok, blames-refused, blames-pick, blames-bind, kind-blames, torn, outsize, smudged}
+use Rattle.reading.proofs.Blames.{Blames, Inner, blames-ok, blames-refused, blames-pick, blames-bind, kind-blames, truncated, out-of-range, outside-alphabet}
 use Rattle.reading.proofs.Items.{text-item}
 use Rattle.reading.proofs.Formats.{Laws, Never}
 use Rattle.reading.proofs.ItemLaws.{kind-sound, kind-complete}
@@ -79,10 +79,10 @@ module _ (least : ℕ) (alphabet : ℕ → Bool) where
   unfolding readText textBytes
   text-blames {D} s at =
       blames-bind (Inner D) _ _ (kind-blames s at 3) λ len n e.
-      blames-pick (Inner D) _ _ _ (λ _. blames-refused (Inner D) _ _ outsize) λ _.
-      blames-pick (Inner D) _ _ _ (λ _. blames-refused (Inner D) _ _ outsize) λ _.
-      blames-pick (Inner D) _ _ _ (λ _. blames-refused (Inner D) _ _ torn) λ _.
-      blames-pick (Inner D) _ _ _ (λ _. blames-ok (Inner D) _ _) λ _. blames-refused (Inner D) _ _ smudged
+      blames-pick (Inner D) _ _ _ (λ _. blames-refused (Inner D) _ _ out-of-range) λ _.
+      blames-pick (Inner D) _ _ _ (λ _. blames-refused (Inner D) _ _ out-of-range) λ _.
+      blames-pick (Inner D) _ _ _ (λ _. blames-refused (Inner D) _ _ truncated) λ _.
+      blames-pick (Inner D) _ _ _ (λ _. blames-ok (Inner D) _ _) λ _. blames-refused (Inner D) _ _ outside-alphabet
 
   pub text-laws : Laws (readText least alphabet) encText (WithinText least alphabet) 1 Never
   unfolding encText

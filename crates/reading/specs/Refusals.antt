@@ -12,7 +12,7 @@ use Rattle.reading.specs.Module.{Ir, readIr, encIr, WithinIr}
 use Rattle.reading.specs.declared.item.Tag.{Tag}
 
 -- 9: an ir_version that is too new stands at p, first in the document that starts at `at`
-pub record Unborn (s : List ℕ) (at p : ℕ) : Type 0 where
+pub record NewerVersion (s : List ℕ) (at p : ℕ) : Type 0 where
   pub opens : readFields 2 s at ≡ ok tt p
   pub version : ℕ
   pub end : ℕ
@@ -20,7 +20,7 @@ pub record Unborn (s : List ℕ) (at p : ℕ) : Type 0 where
   pub newer : maxVersion < version
 
 -- 8: the document ends at p, and bytes follow
-pub record Overhang (s : List ℕ) (p : ℕ) : Type 0 where
+pub record Followed (s : List ℕ) (p : ℕ) : Type 0 where
   pub content : Ir
   pub reads : readIr s 0 ≡ ok content p
   pub more : p < length s

@@ -1,0 +1,40 @@
+/* The offer-module checker, as a C library: liboffer.a, which `rt staticlib offer` writes.
+ *
+ * Every call ends, on every input, and expects nothing of what the bytes hold. A call takes no more memory than its
+ * stack. The calls keep no state, so any number of threads may make them at once.
+ *
+ * A pointer and the length after it are a buffer: the pointer is not NULL, even where the length is 0, and the buffers
+ * of one call do not overlap. */
+#ifndef OFFER_H
+#define OFFER_H
+
+#include <stddef.h>
+#include <stdint.h>
+
+#ifdef __cplusplus
+extern "C" {
+#endif
+
+/* The refusals of a document, and their places. */
+enum {
+    OFFER_ACCEPTED = 0,
+    OFFER_TOO_LONG = 1,         /* over 65,535 bytes; place 0 */
+    OFFER_TRUNCATED = 2,        /* the bytes end inside an item, or before one that is due; the item's start */
+    OFFER_NON_CANONICAL = 3,    /* additional information 28 to 31, or a longer head than needed; the item's start */
+    OFFER_UNEXPECTED = 4,       /* another kind, field count or case than is due; the item's start */
+    OFFER_OUT_OF_RANGE = 5,     /* a list, string or number over its limit, or an empty name; the item's start */
+    OFFER_OUTSIDE_ALPHABET = 6, /* a byte outside the string's alphabet; the string's start */
+    OFFER_TOO_DEEP = 7,         /* an expression or formula would start at depth 33; its start */
+    OFFER_TRAILING = 8,         /* bytes follow the document; the first of them */
+    OFFER_UNKNOWN_VERSION = 9   /* ir_version over 1; its start */
+};
+
+/* Whether the bytes are a document: OFFER_ACCEPTED, or the refusal's number. *place is the refusal's place, an offset
+ * into the bytes, and 0 where the document is accepted. */
+uint32_t offer_read(const uint8_t *doc, size_t doc_len, uint64_t *place);
+
+#ifdef __cplusplus
+}
+#endif
+
+#endif
