@@ -1,10 +1,10 @@
 -- What a reader gave, from what the code learnt of its answer: each law gives an equation to rewrite with.
 use Prim.Native.Nat.{ℕ}
-use mathlib.Core.Path.{_≡_, refl, sym, ap, _∙_}
+use mathlib.Core.Path.{_≡_, refl}
 use borrow.Author.Tests.{le-ltb, lt-ltb, le-leb, lt-leb, eq-eqb, ne-eqb}
-use Rattle.reading.specs.Read.{Read, ok, refused, mapR}
+use Rattle.reading.specs.Read.{Read, ok, refused}
 use Rattle.reading.specs.Head.{Hd}
-use Rattle.reading.specs.Link.{headOf, answer, taggedOf, stands, stepOf}
+use Rattle.reading.specs.Link.{headOf, answer, taggedOf, stands}
 use Rattle.reading.specs.declared.fault.Fault.{Fault}
 use Rattle.reading.specs.declared.cursor.Cursor.{Cursor}
 use Rattle.reading.specs.declared.cursor.Head.{Head}
@@ -12,9 +12,7 @@ use Rattle.reading.specs.declared.cursor.Head.the-variants as head
 use Rattle.reading.specs.declared.item.Answer.{Answer}
 use Rattle.reading.specs.declared.item.Answer.the-variants.{Got, Refused}
 use Rattle.reading.specs.declared.item.Tag.{Tag}
-use Rattle.reading.specs.declared.item.Tagged.{Tagged}
 use Rattle.reading.specs.declared.item.Tagged.the-variants as tagged
-use Rattle.reading.specs.declared.step.Step.{Step}
 use Rattle.reading.specs.declared.step.Step.the-variants as step
 use Rattle.reading.proofs.Rules.{no, pick-true, pick-false, bind-ok, bind-out, map-ok, map-out}
 

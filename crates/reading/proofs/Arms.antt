@@ -1,13 +1,13 @@
 -- The arms of a match on a case number: what an arm reads is what the definition's row of that number reads.
 use Prim.Native.Nat.{ℕ, zero, suc, _<_, _≤_}
-use mathlib.Core.Path.{_≡_, refl, sym, ap, _∙_}
+use mathlib.Core.Path.{_≡_, sym, ap, _∙_}
 use mathlib.Core.List.{List}
 use mathlib.Core.Bool.{false}
 use native.Mathlib.Omega.{arith}
 use lib.Dec.{eqb, lit<}
 use borrow.Author.Tests.{ne-eqb}
-use Rattle.reading.specs.Read.{Read, Reader, ok, refused, pick, mapR}
-use Rattle.reading.specs.Combine.{Cases, sized, nothing, row, unknown}
+use Rattle.reading.specs.Read.{Read, Reader, ok, mapR}
+use Rattle.reading.specs.Combine.{Cases, sized, row, unknown}
 use Rattle.reading.specs.Expr.{Expr, exprCases}
 use Rattle.reading.specs.Decl.{tyCases, constructorVariantCases}
 use Rattle.reading.specs.Pattern.{patternExprCases, patternVariantCases}

@@ -7,7 +7,7 @@ use lib.Dec.{T, eqb}
 use borrow.Author.Tests.{eqb-true, eqb-false}
 use Rattle.reading.specs.Read.{pick}
 use Rattle.reading.specs.Text.{nameByte}
-use Rattle.reading.specs.Link.{nameRow}
+use Rattle.reading.specs.Short.{nameRow}
 use Rattle.reading.proofs.Rules.{by}
 
 -- two answers are the same, and then b

@@ -9,9 +9,7 @@ use Rattle.reading.specs.Expr.{exprCases, readExpr}
 use Rattle.reading.specs.Decl.{tyCases, readTy, constructorVariantCases, readConstructorVariant}
 use Rattle.reading.specs.Pattern.{patternExprCases, readPatternExpr, patternVariantCases, readPatternVariant}
 use Rattle.reading.specs.Formula.{formulaCases, readFormula}
-use Rattle.reading.specs.Views.{EnumAt, ExprAt, int-expr, bool-expr, path-expr, unary-expr, binary-expr, TyAt, bool-ty, bit-ty, enum-ty, ConstructorVariantAt, unit-variant, struct-variant}
-use Rattle.reading.specs.Views.{PatternExprAt, wildcard-pattern, bind-pattern, int-pattern, bool-pattern, path-pattern, PatternVariantAt, unit-pattern, struct-pattern}
-use Rattle.reading.specs.Views.{FormulaAt, input-formula, output-formula, expr-formula, not-formula, and-formula, or-formula, implies-formula, next-formula, always-formula, bounded-always-formula, bounded-eventually-formula, eventually-formula, until-formula}
+use Rattle.reading.specs.Views.{EnumAt, ExprAt, int-expr, bool-expr, path-expr, unary-expr, binary-expr, TyAt, bool-ty, bit-ty, enum-ty, ConstructorVariantAt, unit-variant, struct-variant, PatternExprAt, wildcard-pattern, bind-pattern, int-pattern, bool-pattern, path-pattern, PatternVariantAt, unit-pattern, struct-pattern, FormulaAt, input-formula, output-formula, expr-formula, not-formula, and-formula, or-formula, implies-formula, next-formula, always-formula, bounded-always-formula, bounded-eventually-formula, eventually-formula, until-formula}
 use Rattle.reading.specs.declared.item.Tag.{Tag}
 use Rattle.reading.proofs.Rules.{no}
 use Rattle.reading.proofs.Gives.{Gives, gives-bind}

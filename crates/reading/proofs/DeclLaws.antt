@@ -7,9 +7,7 @@ use Rattle.reading.specs.Limits.{maxU32, maxList, maxDepth}
 use Rattle.reading.specs.Combine.{pair}
 use Rattle.reading.specs.Encode.{encText, encList, WithinName, WithinList}
 use Rattle.reading.specs.Expr.{readExpr}
-use Rattle.reading.specs.Decl.{Ty, bool, bit, enum, ConstructorVariant, unit, struct}
-use Rattle.reading.specs.Decl.{readNames, readEnumDecl, tyCases, readTy, readFieldDecl, constructorVariantCases, readConstructorVariant, readConstructorGroup, readVarDecl}
-use Rattle.reading.specs.Decl.{encEnumDecl, encTy, encFieldDecl, encConstructorVariant, encConstructorGroup, encVarDecl, WithinEnumDecl, WithinTy, WithinFieldDecl, WithinConstructorVariant, WithinConstructorGroup, WithinVarDecl}
+use Rattle.reading.specs.Decl.{Ty, bool, bit, enum, ConstructorVariant, unit, struct, readNames, readEnumDecl, tyCases, readTy, readFieldDecl, constructorVariantCases, readConstructorVariant, readConstructorGroup, readVarDecl, encEnumDecl, encTy, encFieldDecl, encConstructorVariant, encConstructorGroup, encVarDecl, WithinEnumDecl, WithinTy, WithinFieldDecl, WithinConstructorVariant, WithinConstructorGroup, WithinVarDecl}
 use Rattle.reading.proofs.Formats.{Laws, Never, From, of, flat, by-bytes}
 use Rattle.reading.proofs.ExprLaws.{name-laws, expr-laws}
 use Rattle.reading.proofs.ItemLaws.{number-laws}

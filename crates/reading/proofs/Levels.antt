@@ -1,10 +1,10 @@
 -- What nests by levels: nothing starts where no level is left, and a start takes one.
-use Prim.Native.Nat.{ℕ, zero, suc, _-_}
-use mathlib.Core.Path.{_≡_, refl, sym, ap, _∙_, fun-ext}
+use Prim.Native.Nat.{ℕ, suc, _-_}
+use mathlib.Core.Path.{_≡_, refl, sym, ap, _∙_}
 use mathlib.Core.List.{List}
 use native.Mathlib.Omega.{arith}
 use Rattle.reading.specs.Read.{Read, Reader, refused}
-use Rattle.reading.specs.Combine.{Cases, enumOf}
+use Rattle.reading.specs.Combine.{enumOf}
 use Rattle.reading.specs.Expr.{readExpr, exprCases}
 use Rattle.reading.specs.Formula.{readFormula, formulaCases}
 use Rattle.reading.specs.Link.{stands, onward, deep}

@@ -8,14 +8,13 @@ use Rattle.reading.specs.Read.{Reader, ok}
 use Rattle.reading.specs.Limits.{maxU64}
 use Rattle.reading.specs.Combine.{entries, listOf}
 use Rattle.reading.specs.Encode.{encHead, encAll, encList, All, empty, more, WithinList}
-use Rattle.reading.specs.Items.{Items}
+use Rattle.reading.specs.Items.{Items, none as no-item}
 use Rattle.reading.proofs.Rules.{bind-ok, map-ok}
 use Rattle.reading.proofs.Gives.{Gives, gives-ok, gives-bind, gives-map}
 use Rattle.reading.proofs.At.{At, at-join, at-split, at-nil}
 use Rattle.reading.proofs.HeadSound.{Bytes}
 use Rattle.reading.proofs.Blames.{Blames, Inner, blames-ok, blames-bind, blames-map}
 use Rattle.reading.proofs.Items.{items-join, array-item}
-use Rattle.reading.specs.Items.{none as no-item}
 use Rattle.reading.proofs.Formats.{Laws, of}
 use Rattle.reading.proofs.ItemLaws.{kind-sound, count-kind, count-complete, count-blames}
 

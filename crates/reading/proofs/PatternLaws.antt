@@ -4,9 +4,7 @@ use mathlib.Core.Path.{refl}
 use native.Mathlib.Omega.{arith}
 use Rattle.reading.specs.Limits.{maxList}
 use Rattle.reading.specs.Combine.{pair}
-use Rattle.reading.specs.Pattern.{PatternExpr, wildcard, bind, int, bool, enumVariant, PatternVariant, unit, struct}
-use Rattle.reading.specs.Pattern.{patternExprCases, readPatternExpr, readPatternField, patternVariantCases, readPatternVariant, readPattern}
-use Rattle.reading.specs.Pattern.{encPatternExpr, encPatternField, encPatternVariant, encPattern, WithinPatternExpr, WithinPatternField, WithinPatternVariant, WithinPattern}
+use Rattle.reading.specs.Pattern.{PatternExpr, wildcard, bind, int, bool, enumVariant, PatternVariant, unit, struct, patternExprCases, readPatternExpr, readPatternField, patternVariantCases, readPatternVariant, readPattern, encPatternExpr, encPatternField, encPatternVariant, encPattern, WithinPatternExpr, WithinPatternField, WithinPatternVariant, WithinPattern}
 use Rattle.reading.proofs.Formats.{Laws, Never, of}
 use Rattle.reading.proofs.ExprLaws.{u64, name-laws, name-solid, path-laws}
 use Rattle.reading.proofs.ItemLaws.{bool-laws}

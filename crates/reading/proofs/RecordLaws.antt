@@ -7,13 +7,12 @@ use Rattle.reading.specs.Read.{ok}
 use Rattle.reading.specs.Limits.{maxU64}
 use Rattle.reading.specs.Combine.{nothing, _then_, recordOf}
 use Rattle.reading.specs.Encode.{encHead, encRecord, _&_}
-use Rattle.reading.specs.Items.{Items}
+use Rattle.reading.specs.Items.{Items, none as no-item}
 use Rattle.reading.proofs.Rules.{no, bind-ok, map-ok}
 use Rattle.reading.proofs.Gives.{gives-ok, gives-bind, gives-map}
 use Rattle.reading.proofs.At.{At, at-join, at-split, at-nil}
 use Rattle.reading.proofs.Blames.{Inner, blames-ok, blames-bind, blames-map}
 use Rattle.reading.proofs.Items.{items-join, array-item}
-use Rattle.reading.specs.Items.{none as no-item}
 use Rattle.reading.proofs.Formats.{Is, Laws, Never, Format, of}
 use Rattle.reading.proofs.ItemLaws.{kind-sound, fields-kind, fields-complete, fields-blames}
 

@@ -1,7 +1,6 @@
 -- How the definitions compute: one rule for each case.
 use Prim.Native.Nat.{ℕ}
 use mathlib.Core.Path.{_≡_, refl}
-use mathlib.Core.List.{List}
 use mathlib.Core.Bool.{Bool, true, false}
 use native.Mathlib.Omega.{arith}
 use Rattle.reading.specs.Read.{Read, ok, refused, pick, bind, mapR}

@@ -1,23 +1,23 @@
 -- A head of one byte is read as such.
 use Prim.Native.Nat.{ℕ, _+_, _-_, _*_, _/_, _%_, _<_, _≤_}
-use mathlib.Core.Path.{_≡_, refl, sym, ap, _∙_}
+use mathlib.Core.Path.{_≡_, refl, sym, _∙_}
 use mathlib.Core.List.{List}
 use mathlib.Core.Bool.{Bool, true, false}
 use native.Mathlib.Omega.{arith}
 use lib.ListN.{length, getD}
-use lib.Dec.{eqb, ltb}
-use borrow.Author.Tests.{ltb-true, ltb-false, eqb-true, eqb-false, lt-ltb, le-ltb, lt-leb, le-leb, eq-eqb, ne-eqb}
-use Rattle.reading.specs.Read.{ok, refused, pick, bind, mapR}
+use borrow.Author.Tests.{ltb-true, ltb-false, lt-ltb, le-ltb, lt-leb, le-leb, eq-eqb, ne-eqb}
+use Rattle.reading.specs.Read.{ok, pick, mapR}
 use Rattle.reading.specs.Head.{readHead, headWith}
 use Rattle.reading.specs.Limits.{maxText}
 use Rattle.reading.specs.Item.{readKind}
 use Rattle.reading.specs.Text.{textBytes, readText, readName}
-use Rattle.reading.specs.Link.{answer, oneByte, nameHead, alphabetOf}
+use Rattle.reading.specs.Link.{answer, alphabetOf}
+use Rattle.reading.specs.Short.{oneByte, nameHead}
 use Rattle.reading.specs.declared.fault.Fault.the-variants.{Truncated}
 use Rattle.reading.specs.declared.item.Answer.{Answer}
 use Rattle.reading.specs.declared.item.Answer.the-variants.{Got, Refused}
 use Rattle.reading.specs.declared.text.Text.the-variants.{Name}
-use Rattle.reading.proofs.Rules.{no, by, pick-true, pick-false, bind-ok, bind-out}
+use Rattle.reading.proofs.Rules.{no, pick-true, pick-false, bind-ok, bind-out}
 use Rattle.reading.proofs.Answers.{answer-ok, answer-out}
 
 -- a test that passed is none of those that would have failed it

@@ -1,14 +1,12 @@
 -- Past items: the loop, in which what remains decides, goes as the definition does; items that stand there are passed; a string's part.
 use Prim.Native.Nat.{ℕ, zero, suc, _+_, _-_, _<_, _≤_}
-use mathlib.Core.Path.{_≡_, refl, sym, ap, _∙_, subst}
+use mathlib.Core.Path.{_≡_, refl, sym, ap, _∙_}
 use mathlib.Core.List.{List, []}
-use mathlib.Core.Bool.{true, false}
 use native.Mathlib.Omega.{arith}
 use native.Mathlib.Nat.{add-sub-cancel-left}
 use lib.ListN.{length, take, drop}
-use lib.Dec.{ltb}
 use borrow.Author.Tests.{lt-ltb, le-ltb, le-leb, ltb-false}
-use Rattle.reading.specs.Read.{Read, Reader, ok, refused, pick, bind}
+use Rattle.reading.specs.Read.{Read, ok, refused, bind}
 use Rattle.reading.specs.Head.{Hd, readHead}
 use Rattle.reading.specs.Item.{readKind}
 use Rattle.reading.specs.Items.{inside, payload, Items, none, more}

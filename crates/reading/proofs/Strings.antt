@@ -1,7 +1,7 @@
 -- Strings: the loop over their bytes, in which what remains decides; and the string's bytes after its head.
-use Prim.Native.Nat.{ℕ, suc, _+_, _-_, _<_, _≤_}
-use mathlib.Core.Path.{_≡_, refl, sym, ap, _∙_}
-use mathlib.Core.List.{List, [], _∷_}
+use Prim.Native.Nat.{ℕ, _+_, _-_, _<_, _≤_}
+use mathlib.Core.Path.{_≡_, sym, ap, _∙_}
+use mathlib.Core.List.{List}
 use mathlib.Core.Bool.{Bool, true, false}
 use native.Mathlib.Numerals.{add-one}
 use native.Mathlib.Nat.{add-sub-cancel-left}
@@ -9,7 +9,7 @@ use lib.ListN.{length, take, drop, getD, drop-of-length-le, length-drop}
 use lib.Seq.{drop-cons, length-take-le}
 use lib.Dec.{ltb}
 use borrow.Author.Tests.{lt-ltb, le-ltb}
-use Rattle.reading.specs.Read.{ok, refused, pick, bind, mapR}
+use Rattle.reading.specs.Read.{pick, mapR}
 use Rattle.reading.specs.Limits.{maxText}
 use Rattle.reading.specs.Item.{readKind}
 use Rattle.reading.specs.Text.{all, nameByte, versionByte, textBytes, readText}

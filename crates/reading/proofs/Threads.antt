@@ -1,14 +1,14 @@
 -- Reading on after a step: what a chain of step methods reads is what the reader of its parts gives.
-use Prim.Native.Nat.{ℕ, zero, suc, _+_, _-_, _<_, _≤_}
-use mathlib.Core.Path.{_≡_, refl, sym, ap, _∙_, subst}
-use mathlib.Core.List.{List, [], _∷_}
+use Prim.Native.Nat.{ℕ, suc, _+_, _-_, _<_, _≤_}
+use mathlib.Core.Path.{_≡_, refl, sym, ap, _∙_}
+use mathlib.Core.List.{List, _∷_}
 use mathlib.Core.Bool.{Bool, true, false}
-use mathlib.Core.Option.{Option, none, some}
+use mathlib.Core.Option.{none, some}
 use native.Mathlib.Omega.{arith}
 use native.Mathlib.Nat.{sub-zero}
 use lib.ListN.{length, getD, List·getD-eq-default}
 use lib.Dec.{eqb}
-use borrow.Author.Tests.{eq-eqb, ne-eqb}
+use borrow.Author.Tests.{ne-eqb}
 use Rattle.reading.specs.Read.{Read, Reader, ok, refused, pick, bind, mapR}
 use Rattle.reading.specs.Item.{readFields, readCount, readTag}
 use Rattle.reading.specs.Combine.{_then_, recordOf, entries, listOf, optional, Cases, sized, enumOf}
@@ -25,7 +25,7 @@ use Rattle.reading.specs.declared.step.Step.{Step}
 use Rattle.reading.specs.declared.step.Step.the-variants as step
 use Rattle.reading.specs.declared.step.Null.{Null}
 use Rattle.reading.specs.declared.step.Null.the-variants as null
-use Rattle.reading.proofs.Rules.{no, pick-true, pick-false, bind-ok, bind-out}
+use Rattle.reading.proofs.Rules.{no, pick-true, pick-false}
 
 -- a step that leads to a cursor, and one that is refused
 module _ {A : Type 0} (s : List ℕ) (F : Reader A) where

@@ -4,8 +4,7 @@ use mathlib.Core.List.{append-assoc}
 use native.Mathlib.Omega.{arith}
 use Rattle.reading.specs.Limits.{maxU32, maxList, maxDepth}
 use Rattle.reading.specs.Expr.{readExpr, encExpr}
-use Rattle.reading.specs.Transition.{readTopExpr, readOutputExpr, readAssignment, readOnError, readTransition}
-use Rattle.reading.specs.Transition.{encOutputExpr, encAssignment, encOnError, encTransition, WithinTopExpr, WithinOutputExpr, WithinAssignment, WithinOnError, WithinTransition}
+use Rattle.reading.specs.Transition.{readTopExpr, readOutputExpr, readAssignment, readOnError, readTransition, encOutputExpr, encAssignment, encOnError, encTransition, WithinTopExpr, WithinOutputExpr, WithinAssignment, WithinOnError, WithinTransition}
 use Rattle.reading.proofs.Formats.{Laws, From, of, flat, by-bytes}
 use Rattle.reading.proofs.ExprLaws.{u64, name-laws, name-solid, expr-laws, expr-solid}
 use Rattle.reading.proofs.PatternLaws.{pattern-laws}

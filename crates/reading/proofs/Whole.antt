@@ -1,11 +1,10 @@
 -- A whole document, by the step that its content leads to.
 use Prim.Native.Nat.{ℕ, _<_, _≤_}
-use mathlib.Core.Path.{_≡_, refl, sym, ap, _∙_}
+use mathlib.Core.Path.{_≡_, sym, ap, _∙_}
 use mathlib.Core.List.{List}
 use lib.ListN.{length}
-use lib.Dec.{ltb}
 use borrow.Author.Tests.{lt-ltb, le-ltb}
-use Rattle.reading.specs.Read.{Read, ok, refused, pick, bind}
+use Rattle.reading.specs.Read.{Read, ok, refused}
 use Rattle.reading.specs.Limits.{maxDocument}
 use Rattle.reading.specs.Module.{Ir, readIr}
 use Rattle.reading.specs.Document.{readDocument}

@@ -2,7 +2,7 @@
 use Prim.Native.Nat.{ℕ, zero, suc, _<_, _≤_}
 use mathlib.Core.List.{List, _++_}
 use mathlib.Core.Bool.{Bool}
-use Rattle.reading.specs.Read.{Read, Reader, refused}
+use Rattle.reading.specs.Read.{Reader, refused}
 use Rattle.reading.specs.Limits.{maxU64, maxPath}
 use Rattle.reading.specs.Item.{readNumber, readBool, readCase}
 use Rattle.reading.specs.Text.{Name, readName}

@@ -1,7 +1,7 @@
 -- Formulas: the thirteen cases of ir.rs.
 use Prim.Native.Nat.{ℕ, zero, suc, _≤_}
 use mathlib.Core.List.{List, _++_}
-use Rattle.reading.specs.Read.{Read, Reader, refused}
+use Rattle.reading.specs.Read.{Reader, refused}
 use Rattle.reading.specs.Limits.{maxU64}
 use Rattle.reading.specs.Item.{readNumber}
 use Rattle.reading.specs.Combine.{_then_, Cases, row, unknown, enumOf, pair}

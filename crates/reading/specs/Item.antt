@@ -1,9 +1,8 @@
 -- Items with their limits: refusals 4, 5 and 9.
 use Prim.Native.Nat.{ℕ}
-use mathlib.Core.List.{List}
 use mathlib.Core.Bool.{Bool, true, false}
 use lib.Dec.{ltb, eqb}
-use Rattle.reading.specs.Read.{Read, Reader, ok, refused, pick, bind, mapR}
+use Rattle.reading.specs.Read.{Reader, ok, refused, pick, bind}
 use Rattle.reading.specs.Limits.{maxVersion}
 use Rattle.reading.specs.Head.{readHead}
 use Rattle.reading.specs.declared.fault.Fault.the-variants.{Unexpected, OutOfRange, UnknownVersion}

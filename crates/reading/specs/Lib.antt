@@ -15,6 +15,7 @@ pub mod Formula
 pub mod Module
 pub mod Document
 pub mod Link
+pub mod Short
 pub mod Items
 pub mod Views
 pub mod Refusals

@@ -1,15 +1,14 @@
 -- What the code answers, for what reading gives; and what document 01 says of each answer: number and place.
-use Prim.Native.Nat.{ℕ, _+_, _-_, _*_}
+use Prim.Native.Nat.{ℕ, _+_}
 use mathlib.Core.List.{List}
 use mathlib.Core.Bool.{Bool, true, false}
 use lib.ListN.{getD}
-use lib.Dec.{eqb, ltb}
+use lib.Dec.{eqb}
 use Rattle.reading.specs.Read.{Read, Reader, ok, refused, pick}
 use Rattle.reading.specs.Fault.{number}
 use Rattle.reading.specs.Head.{Hd}
 use Rattle.reading.specs.Text.{nameByte, versionByte}
 use Rattle.reading.specs.declared.fault.Fault.the-variants.{TooDeep}
-use Rattle.reading.specs.declared.cursor.Cursor.{Cursor}
 use Rattle.reading.specs.declared.cursor.Head.{Head}
 use Rattle.reading.specs.declared.cursor.Head.the-variants as head
 use Rattle.reading.specs.declared.item.Answer.{Answer}
@@ -84,22 +83,10 @@ unfoldable pub taggedAfter : List ℕ → Step → Reader Tag → Tagged
 taggedAfter s (step.To c) F = taggedOf (F s (c .at))
 taggedAfter s (step.Refused f p) F = tagged.Refused f p
 
--- the first byte of a head that is that byte alone, of the major type that is due
-unfoldable pub oneByte : ℕ → ℕ → Bool
-oneByte due b = pick (ltb 6 due) false (pick (ltb b (due * 32)) false (ltb (b - due * 32) 24))
-
--- the head of a string that is not empty, in one byte
-unfoldable pub nameHead : ℕ → Bool
-nameHead b = pick (ltb b 97) false (ltb b 120)
-
 -- a bool as a number
 unfoldable pub bit : Bool → ℕ
 bit false = 0
 bit true = 1
-
--- the name bytes among the 32 from 32 * row on, one bit each
-unfoldable pub nameRow : ℕ → ℕ
-nameRow row = pick (eqb row 1) 67043328 (pick (eqb row 2) 2281701374 (pick (eqb row 3) 134217726 0))
 
 -- a name has a byte at least
 unfoldable pub leastOf : Text → ℕ

@@ -3,7 +3,7 @@ use Prim.Native.Nat.{ℕ, _+_, _-_}
 use mathlib.Core.List.{List, [], _∷_}
 use mathlib.Core.Bool.{Bool, true, false}
 use lib.ListN.{length, take, drop}
-use lib.Dec.{ltb, leb, eqb}
+use lib.Dec.{ltb, eqb}
 use Rattle.reading.specs.Read.{Read, Reader, ok, refused, pick, bind}
 use Rattle.reading.specs.Limits.{maxText}
 use Rattle.reading.specs.Item.{readKind}

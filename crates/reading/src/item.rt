@@ -7,7 +7,8 @@ use crate::step::Step;
 ghost use mathlib.Core.Path.{_≡_};
 ghost use Rattle.reading.specs.Read.{mapR};
 ghost use Rattle.reading.specs.Item.{readKind, readNumber, readIrVersion, readCase, readBool, readFields, readCount, readTag};
-ghost use Rattle.reading.specs.Link.{answer, taggedOf, stands, bit, valueOf, stepOf, oneByte};
+ghost use Rattle.reading.specs.Link.{answer, taggedOf, stands, bit, valueOf, stepOf};
+ghost use Rattle.reading.specs.Short.{oneByte};
 
 // An item with a number: the number and the cursor after the item; or what is wrong, and where.
 pub enum Answer {

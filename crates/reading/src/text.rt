@@ -8,7 +8,8 @@ ghost use Prim.Native.Nat.{_≤_};
 ghost use lib.ListN.{length};
 ghost use Rattle.reading.specs.Read.{mapR};
 ghost use Rattle.reading.specs.Text.{all, nameByte, versionByte, textBytes, readText, readName};
-ghost use Rattle.reading.specs.Link.{answer, leastOf, alphabetOf, nameRow, nameHead};
+ghost use Rattle.reading.specs.Link.{answer, leastOf, alphabetOf};
+ghost use Rattle.reading.specs.Short.{nameRow, nameHead};
 
 // What a string is: a name has a byte at least, and a narrower alphabet.
 pub enum Text {

@@ -7,7 +7,6 @@ use crate::step::Step;
 ghost use mathlib.Core.Path.{_≡_};
 ghost use Prim.Native.Nat.{_+_, _<_, _≤_};
 ghost use lib.ListN.{length};
-ghost use Rattle.reading.specs.Head.{Hd};
 ghost use Rattle.reading.specs.Items.{inside, payload};
 ghost use Rattle.reading.specs.Skip.{skipBody, skipHead, skipItems, textAt};
 ghost use Rattle.reading.specs.Link.{answer, stands};

@@ -1,5 +1,5 @@
 -- By the verdict's two cases.
-use mathlib.Core.Path.{_≡_, sym, ap, _∙_}
+use mathlib.Core.Path.{sym, ap, _∙_}
 use borrow.Author.Needs.{needs}
 use Rattle.reading.specs.Link.{numberOf, placeOf}
 use Rattle.offer.proofs.offer_read.Statement.{statement}

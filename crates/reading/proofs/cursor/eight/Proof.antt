@@ -1,8 +1,9 @@
+-- By the two halves.
 use borrow.Author.Needs.{needs}
 use Rattle.reading.proofs.cursor.eight.Statement.{statement}
 use Rattle.reading.proofs.cursor.eight.Tie as tie
 use native.Mathlib.Omega.{arith}
-use Rattle.reading.specs.Head.{readHead, headWith, be2, be4, be8}
+use Rattle.reading.specs.Head.{be8}
 
 returns : tie.Need-returns
 unfolding be8

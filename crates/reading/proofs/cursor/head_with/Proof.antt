@@ -1,8 +1,8 @@
-use Rattle.reading.specs.Head.{readHead, headWith, wideHead, longHead, settled, simple}
+-- By the tests on the way.
+use Rattle.reading.specs.Head.{headWith}
 use borrow.Author.Needs.{needs}
 use Rattle.reading.proofs.cursor.head_with.Statement.{statement}
 use Rattle.reading.proofs.cursor.head_with.Tie as tie
-use borrow.Author.Tests.{le-ltb, lt-ltb, le-leb, lt-leb, eq-eqb, ne-eqb}
 use Rattle.reading.proofs.Answers.{tests}
 
 returns : tie.Need-returns

@@ -1,8 +1,9 @@
+-- The byte, which is below 256.
 use borrow.Author.Needs.{needs}
 use Rattle.reading.proofs.cursor.one.Statement.{statement}
 use Rattle.reading.proofs.cursor.one.Tie as tie
 use native.Mathlib.Omega.{arith}
-use Rattle.reading.specs.Head.{readHead, headWith, be1, be2, be4, be8}
+use Rattle.reading.specs.Head.{be1}
 
 returns : tie.Need-returns
 unfolding be1

@@ -1,7 +1,7 @@
-use Rattle.reading.specs.Head.{readHead, headWith, wideHead, longHead, settled, simple}
+-- By the test.
+use Rattle.reading.specs.Head.{settled}
 use Rattle.reading.proofs.cursor.settle.Statement.{statement}
 use Rattle.reading.proofs.cursor.settle.Tie as tie
-use borrow.Author.Tests.{le-ltb, lt-ltb, le-leb, lt-leb, eq-eqb, ne-eqb}
 use Rattle.reading.proofs.Answers.{tests}
 
 returns : tie.Need-returns

@@ -1,8 +1,9 @@
+-- By the two bytes.
 use borrow.Author.Needs.{needs}
 use Rattle.reading.proofs.cursor.two.Statement.{statement}
 use Rattle.reading.proofs.cursor.two.Tie as tie
 use native.Mathlib.Omega.{arith}
-use Rattle.reading.specs.Head.{readHead, headWith, be1, be2, be4, be8}
+use Rattle.reading.specs.Head.{be2}
 
 returns : tie.Need-returns
 unfolding be2

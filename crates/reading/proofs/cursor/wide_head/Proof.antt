@@ -1,11 +1,12 @@
-use Rattle.reading.specs.Head.{readHead, headWith, wideHead, longHead, settled, simple}
+-- Each arm is the head of its width.
+use Rattle.reading.specs.Head.{wideHead, longHead}
 use borrow.Author.Needs.{needs}
 use Rattle.reading.proofs.cursor.wide_head.Statement.{statement}
 use Rattle.reading.proofs.cursor.wide_head.Tie as tie
 use Rattle.reading.proofs.Answers.{tests}
 use mathlib.Core.Path.{_∙_}
 use Rattle.reading.proofs.Rules.{pick-true, pick-false}
-use borrow.Author.Tests.{le-ltb, lt-ltb, le-leb, lt-leb, eq-eqb, ne-eqb}
+use borrow.Author.Tests.{le-ltb}
 
 returns : tie.Need-returns
 unfolding wideHead longHead

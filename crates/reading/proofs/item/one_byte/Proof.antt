@@ -1,7 +1,7 @@
 -- By the tests on the way.
 use borrow.Author.Needs.{needs}
 use Rattle.reading.proofs.Answers.{tests}
-use Rattle.reading.specs.Link.{oneByte}
+use Rattle.reading.specs.Short.{oneByte}
 use Rattle.reading.proofs.item.one_byte.Statement.{statement}
 use Rattle.reading.proofs.item.one_byte.Tie as tie
 

@@ -1,6 +1,6 @@
 -- By the tests on the way.
 use Rattle.reading.proofs.Answers.{tests}
-use Rattle.reading.specs.Link.{nameHead}
+use Rattle.reading.specs.Short.{nameHead}
 use Rattle.reading.proofs.text.name_head.Statement.{statement}
 use Rattle.reading.proofs.text.name_head.Tie as tie
 

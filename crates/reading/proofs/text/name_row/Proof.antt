@@ -1,6 +1,6 @@
 -- By the number of the row.
 use Rattle.reading.proofs.Answers.{tests}
-use Rattle.reading.specs.Link.{nameRow}
+use Rattle.reading.specs.Short.{nameRow}
 use Rattle.reading.proofs.text.name_row.Statement.{statement}
 use Rattle.reading.proofs.text.name_row.Tie as tie
 

@@ -1,6 +1,5 @@
 -- By the string's head, and the room that is left.
 use borrow.Author.Needs.{needs}
-use native.Mathlib.Omega.{arith}
 use Rattle.reading.proofs.Skips.{span-refused, span-from, span-short, span-end, span-whole}
 use Rattle.reading.proofs.walk.text_at.Statement.{statement}
 use Rattle.reading.proofs.walk.text_at.Tie as tie

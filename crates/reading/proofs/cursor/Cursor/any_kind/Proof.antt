@@ -1,10 +1,9 @@
+-- By the tests on the way.
 use borrow.Author.Needs.{needs}
 use Rattle.reading.proofs.cursor.Cursor.any_kind.Statement.{statement}
 use Rattle.reading.proofs.cursor.Cursor.any_kind.Tie as tie
-use Rattle.reading.proofs.Answers.{tests}
-use Rattle.reading.specs.Item.{readKind, readNumber}
-use Rattle.reading.proofs.Answers.{num, out, hd, hd-out}
-use Rattle.reading.specs.Link.{answer, headOf}
+use Rattle.reading.proofs.Answers.{tests, hd, hd-out}
+use Rattle.reading.specs.Item.{readKind}
 
 returns : tie.Need-returns
 unfolding readKind

@@ -1,8 +1,9 @@
+-- By the tests on the way.
 use borrow.Author.Needs.{needs}
 use Rattle.reading.proofs.cursor.Cursor.count.Statement.{statement}
 use Rattle.reading.proofs.cursor.Cursor.count.Tie as tie
-use Rattle.reading.proofs.Answers.{tests, num, out, hd, hd-out}
-use Rattle.reading.specs.Item.{readKind, readNumber, readCase, readBool, readCount}
+use Rattle.reading.proofs.Answers.{tests, num, out}
+use Rattle.reading.specs.Item.{readCount}
 
 returns : tie.Need-returns
 unfolding readCount

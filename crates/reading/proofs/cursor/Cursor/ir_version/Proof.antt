@@ -1,10 +1,9 @@
+-- By the tests on the way.
 use borrow.Author.Needs.{needs}
 use Rattle.reading.proofs.cursor.Cursor.ir_version.Statement.{statement}
 use Rattle.reading.proofs.cursor.Cursor.ir_version.Tie as tie
-use Rattle.reading.proofs.Answers.{tests}
-use Rattle.reading.specs.Item.{readKind, readIrVersion}
-use Rattle.reading.proofs.Answers.{num, out, hd, hd-out}
-use Rattle.reading.specs.Link.{answer, headOf}
+use Rattle.reading.proofs.Answers.{tests, num, out}
+use Rattle.reading.specs.Item.{readIrVersion}
 
 returns : tie.Need-returns
 unfolding readIrVersion

@@ -7,8 +7,7 @@ use Rattle.reading.specs.Text.{readName}
 use Rattle.reading.specs.Expr.{readPath}
 use Rattle.reading.specs.Pattern.{wildcard, bind, int, bool, enumVariant, patternExprCases}
 use Rattle.reading.specs.Read.{pick}
-use Rattle.reading.specs.Combine.{_then_, nothing, row, listOf, pair}
-use Rattle.reading.proofs.Threads.{then-read}
+use Rattle.reading.specs.Combine.{nothing, row}
 use Rattle.reading.proofs.Arms.{arm, arm-read, beyond, pattern-expr-unknown}
 use Rattle.reading.proofs.cursor.Cursor.pattern_expr_case.Statement.{statement}
 use Rattle.reading.proofs.cursor.Cursor.pattern_expr_case.Tie as tie

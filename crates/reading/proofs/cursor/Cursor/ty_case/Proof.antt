@@ -4,10 +4,9 @@ use mathlib.Core.Path.{refl}
 use Rattle.reading.specs.Limits.{maxU32}
 use Rattle.reading.specs.Item.{readNumber}
 use Rattle.reading.specs.Text.{readName}
-use Rattle.reading.specs.Decl.{Ty, bool, bit, enum, tyCases}
+use Rattle.reading.specs.Decl.{bool, bit, enum, tyCases}
 use Rattle.reading.specs.Read.{pick}
-use Rattle.reading.specs.Combine.{_then_, nothing, row, listOf, pair}
-use Rattle.reading.proofs.Threads.{then-read}
+use Rattle.reading.specs.Combine.{nothing, row}
 use Rattle.reading.proofs.Arms.{arm, arm-read, beyond, ty-unknown}
 use Rattle.reading.proofs.cursor.Cursor.ty_case.Statement.{statement}
 use Rattle.reading.proofs.cursor.Cursor.ty_case.Tie as tie

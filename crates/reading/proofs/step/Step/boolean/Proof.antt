@@ -1,6 +1,5 @@
 -- Read at the cursor, and the number dropped.
 use borrow.Author.Needs.{needs}
-use Rattle.reading.specs.Link.{bit}
 use Rattle.reading.proofs.Threads.{content-step, onward-out}
 use Rattle.reading.proofs.step.Step.boolean.Statement.{statement}
 use Rattle.reading.proofs.step.Step.boolean.Tie as tie

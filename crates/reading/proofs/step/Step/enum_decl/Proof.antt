@@ -1,8 +1,7 @@
 -- The head, then each field.
 use borrow.Author.Needs.{needs}
 use mathlib.Core.Path.{refl}
-use Rattle.reading.specs.Decl.{readEnumDecl}
-use Rattle.reading.specs.Decl.{readNames}
+use Rattle.reading.specs.Decl.{readEnumDecl, readNames}
 use Rattle.reading.proofs.Threads.{record-read, then-read}
 use Rattle.reading.proofs.step.Step.enum_decl.Statement.{statement}
 use Rattle.reading.proofs.step.Step.enum_decl.Tie as tie

@@ -1,7 +1,6 @@
 -- By the tests on the way.
 use borrow.Author.Needs.{needs}
 use Rattle.reading.proofs.Answers.{tests}
-use Rattle.reading.specs.Link.{nullAfter}
 use Rattle.reading.proofs.Threads.{null-past-end, null-here, null-elsewhere, null-refused}
 use Rattle.reading.proofs.step.Step.null.Statement.{statement}
 use Rattle.reading.proofs.step.Step.null.Tie as tie

@@ -1,6 +1,6 @@
 -- Read at the cursor, and the length dropped.
 use borrow.Author.Needs.{needs}
-use Rattle.reading.specs.Text.{readName, readVersion}
+use Rattle.reading.specs.Text.{readVersion}
 use Rattle.reading.specs.Link.{leastOf, alphabetOf}
 use Rattle.reading.proofs.Threads.{content-step, onward-out}
 use Rattle.reading.proofs.step.Step.version.Statement.{statement}
