@@ -1,0 +1,58 @@
+-- Equality of names is equality, and names of other lengths differ.
+use Prim.Native.Nat.{ℕ}
+use mathlib.Core.Path.{_≡_, refl, ap, sym}
+use mathlib.Core.List.{List, [], _∷_}
+use mathlib.Core.Bool.{Bool, true, false}
+use lib.ListN.{length}
+use lib.Dec.{eqb}
+use borrow.Author.Tests.{eq-eqb, ne-eqb, eqb-true, eqb-false}
+use Rattle.reading.specs.Read.{pick}
+use Rattle.reading.specs.Text.{Name}
+use Rattle.typing.specs.Names.{eqName}
+
+pub eqName-refl : (a : Name) → eqName a a ≡ true
+unfolding eqName pick
+eqName-refl [] = refl
+eqName-refl (x ∷ xs) = rw (eq-eqb x x refl) (eqName-refl xs)
+
+pub pick-left : (b c : Bool) → pick b c false ≡ true → b ≡ true
+unfolding pick
+pick-left true c h = refl
+pick-left false c h = h
+
+pub pick-right : (b c : Bool) → pick b c false ≡ true → c ≡ true
+unfolding pick
+pick-right true c h = h
+pick-right false true h = refl
+pick-right false false h = h
+
+pub eqName-eq : (a b : Name) → eqName a b ≡ true → a ≡ b
+unfolding eqName
+eqName-eq [] [] h = refl
+eqName-eq [] (y ∷ ys) h = cc
+eqName-eq (x ∷ xs) [] h = cc
+eqName-eq (x ∷ xs) (y ∷ ys) h =
+    let p = eqb-true x y (pick-left (eqb x y) (eqName xs ys) h) in
+    let q = eqName-eq xs ys (pick-right (eqb x y) (eqName xs ys) h) in
+    cc
+
+pub eqName-length : (a b : Name) → (length a ≡ length b → ⊥) → eqName a b ≡ false
+eqName-length a b h = go (eqName a b) refl
+  where
+    go : (t : Bool) → eqName a b ≡ t → t ≡ false
+    go true e = absurd (h (ap length (eqName-eq a b e)))
+    go false e = refl
+
+pub eqb-sym : (a b : ℕ) → eqb a b ≡ eqb b a
+eqb-sym a b = go (eqb b a) refl
+  where
+    go : (t : Bool) → eqb b a ≡ t → eqb a b ≡ t
+    go true e = eq-eqb a b (sym (eqb-true b a e))
+    go false e = ne-eqb a b (λ q. eqb-false b a e (sym q))
+
+pub eqName-sym : (a b : Name) → eqName a b ≡ eqName b a
+unfolding eqName
+eqName-sym [] [] = refl
+eqName-sym [] (y ∷ ys) = refl
+eqName-sym (x ∷ xs) [] = refl
+eqName-sym (x ∷ xs) (y ∷ ys) = rw (eqb-sym x y, eqName-sym xs ys)
