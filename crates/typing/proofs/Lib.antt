@@ -1,4 +1,5 @@
 -- Laws that belong to no one function, from the lowest to the highest.
-pub mod Names
+pub mod NameLaws
+pub mod RuleLaws
 pub mod Settled
 pub mod Depends

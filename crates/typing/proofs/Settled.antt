@@ -4,17 +4,17 @@ use mathlib.Core.List.{[]}
 use Rattle.reading.specs.Read.{pick}
 use Rattle.typing.specs.Causes.{number, causeWord, andThen, unless, firstOf}
 use Rattle.typing.specs.Names.{eqName, called, firstCalled}
-use Rattle.typing.specs.Rules.{isBool, bitsOf, bitPair, bitOpType, sameType, literalWithBits, literalWithBool, compatibleWith, compareType, binOp, binaryType}
+use Rattle.typing.specs.Rules.{isBool, bitsOf, bitPair, bitOpType, sameType, literalWithBits, literalWithBool, mismatch, compatibleWith, compareType, binOp, binaryType}
 use Rattle.typing.specs.Typing.{typeExpr}
 use Rattle.typing.specs.Patterns.{fits, patternExprCompatible}
 use Rattle.typing.specs.Formulas.{boundedAlwaysError}
 use Rattle.typing.specs.Version.{isDigit, allDigits, isPart, allParts, onto, split, twoOrThree, isValidVersionFormat}
 use Rattle.typing.specs.Guards.{conjuncts, oneName, pathIs, equated, equality, against, judgeEquality, clashes, contradictoryEqualities}
 use Rattle.typing.specs.Settled.{Settled}
-use Rattle.typing.proofs.Names.{eqName-refl}
+use Rattle.typing.proofs.NameLaws.{eqName-refl}
 
 pub settled : Settled
-unfolding pick number causeWord andThen unless firstOf called firstCalled isBool bitsOf bitPair bitOpType sameType literalWithBits literalWithBool compatibleWith compareType binOp binaryType typeExpr fits patternExprCompatible boundedAlwaysError isDigit allDigits isPart allParts onto split twoOrThree isValidVersionFormat conjuncts oneName pathIs equated equality against judgeEquality clashes contradictoryEqualities
+unfolding pick number causeWord andThen unless firstOf called firstCalled isBool bitsOf bitPair bitOpType sameType literalWithBits literalWithBool mismatch compatibleWith compareType binOp binaryType typeExpr fits patternExprCompatible boundedAlwaysError isDigit allDigits isPart allParts onto split twoOrThree isValidVersionFormat conjuncts oneName pathIs equated equality against judgeEquality clashes contradictoryEqualities
 settled = record {
   settled-1 = refl;
   settled-2 = refl;

@@ -1,6 +1,7 @@
 -- What the code's types, causes and answers stand for, in a document.
 use Prim.Native.Nat.{ℕ}
 use mathlib.Core.List.{List, []}
+use mathlib.Core.Option.{Option, none, some}
 use Rattle.reading.specs.Read.{Read, ok, refused}
 use Rattle.reading.specs.Text.{Name}
 use Rattle.reading.specs.Expr.{readPath}
@@ -13,6 +14,8 @@ use Rattle.typing.specs.declared.ty.Ty.{Ty}
 use Rattle.typing.specs.declared.ty.Ty.the-variants.{Bool, Bit, IntLit, State, Enum}
 use Rattle.typing.specs.declared.cause.Cause.{Cause}
 use Rattle.typing.specs.declared.cause.Cause.the-variants as cause
+use Rattle.typing.specs.declared.rules.Fit.{Fit}
+use Rattle.typing.specs.declared.rules.Fit.the-variants.{Fine, Unfit}
 use Rattle.typing.specs.declared.cause.Typed.{Typed}
 use Rattle.typing.specs.declared.cause.Typed.the-variants.{Is, Fails}
 
@@ -76,3 +79,8 @@ typedOf s (Fails c) = bad (causeOf s c)
 unfoldable pub outcome : ℕ → Answer → Outcome
 outcome next (is t) = good t next
 outcome next (fails c) = bad c
+
+-- what is wrong, if anything
+unfoldable pub unfitOf : List ℕ → Fit → Option causes.Cause
+unfitOf s Fine = none
+unfitOf s (Unfit c) = some (causeOf s c)

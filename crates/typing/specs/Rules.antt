@@ -105,14 +105,20 @@ literalWithBool (Width a) b = false
 literalWithBool Literal b = b
 literalWithBool Other b = false
 
+-- IntLit where a bool is
+abbrev pub literalAsBool : ExprType → ExprType → Bool
+literalAsBool l r = literalWithBool (bitsOf l) (isBool r)
+
+-- why types that are neither can't be compared
+unfoldable pub mismatch : ExprType → ExprType → Cause
+mismatch l r = pick (literalAsBool l r) integerAsBool (pick (literalAsBool r l) integerAsBool (typeMismatch l r))
+
 -- compatible_with: "Comparison: equal types, or IntLit with Bit"
 unfoldable pub compatibleWith : ExprType → ExprType → Option Cause
 compatibleWith l r =
     pick (literalWithBits (bitsOf l) (bitsOf r)) none
     (pick (sameType l r) none
-    (pick (literalWithBool (bitsOf l) (isBool r)) (some integerAsBool)
-    (pick (literalWithBool (bitsOf r) (isBool l)) (some integerAsBool)
-    (some (typeMismatch l r)))))
+    (some (mismatch l r)))
 
 unfoldable pub compareType : ExprType → ExprType → Answer
 compareType l r = unless (compatibleWith l r) (is bool)

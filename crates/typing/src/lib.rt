@@ -2,10 +2,16 @@
 //
 // `specs/` says what is right, over the document's content; `proofs/` says why the code gives it.
 mod cause;
+mod names;
+mod rules;
 mod ty;
 
 pub use cause::Cause;
 pub use cause::Typed;
 pub use cause::What;
+pub use rules::Fit;
+pub use rules::binary_type;
+pub use rules::compatible_with;
+pub use rules::unary_type;
 pub use ty::Bits;
 pub use ty::Ty;
