@@ -40,8 +40,7 @@ module _ {a b : Env} (g : Agree a b) where
   unfolding resolvePath resolveVariant
   path-agree [] = refl
   path-agree (n ∷ []) = name-agree n
-  path-agree (e ∷ (v ∷ [])) = rw (g .enums e, g .variants e v)
-  path-agree (e ∷ (v ∷ (w ∷ ws))) = rw (g .enums e, g .variants e v)
+  path-agree (e ∷ (v ∷ ws)) = rw (g .enums e, g .variants e v)
 
   -- an environment is what its names mean
   pub type-agree : (e : Expr) → typeExpr a e ≡ typeExpr b e

@@ -1,5 +1,6 @@
 -- Laws that belong to no one function, from the lowest to the highest.
 pub mod NameLaws
 pub mod RuleLaws
+pub mod TableLaws
 pub mod Settled
 pub mod Depends

@@ -12,3 +12,6 @@ pub mod Version
 pub mod Guards
 pub mod Settled
 pub mod Means
+pub mod Tells
+pub mod Table
+pub mod Typed

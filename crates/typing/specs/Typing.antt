@@ -3,6 +3,7 @@ use Prim.Native.Nat.{ℕ}
 use mathlib.Core.List.{List, [], _∷_}
 use mathlib.Core.Option.{Option, none, some}
 use lib.ListN.{length}
+use lib.Dec.{ltb}
 use Rattle.reading.specs.Read.{pick}
 use Rattle.reading.specs.Text.{Name}
 use Rattle.reading.specs.Expr.{Expr}
@@ -22,18 +23,20 @@ orVariant env n none = pick (stateVariants env n) (is (enum stateEnum)) (fails (
 unfoldable pub resolveName : Env → Name → Answer
 resolveName env n = pick (eqName n stateWord) (is (enum stateEnum)) (orVariant env n (named env n))
 
--- "Longer path: enum, then variant, then length over 2"; further segments are those after the second
-unfoldable pub resolveVariant : Env → Name → Name → List Name → Answer
-resolveVariant env e v [] = is (enum e)
-resolveVariant env e v (w ∷ ws) = fails (pathLength (length (e ∷ v ∷ w ∷ ws)))
+-- "Longer path: enum, then variant, then length over 2"; n is the path's length
+unfoldable pub resolveVariant : Env → Name → Name → ℕ → Answer
+resolveVariant env e v n =
+    pick (env .enums e)
+    (pick (env .variants e v)
+    (pick (ltb 2 n) (fails (pathLength n)) (is (enum e)))
+    (fails (unknownVariant v e)))
+    (fails (unknownEnum e))
 
+-- resolve_path
 unfoldable pub resolvePath : Env → List Name → Answer
 resolvePath env [] = fails emptyPath
 resolvePath env (n ∷ []) = resolveName env n
-resolvePath env (e ∷ (v ∷ ws)) =
-    pick (env .enums e)
-    (pick (env .variants e v) (resolveVariant env e v ws) (fails (unknownVariant v e)))
-    (fails (unknownEnum e))
+resolvePath env (e ∷ (v ∷ ws)) = resolveVariant env e v (length (e ∷ (v ∷ ws)))
 
 -- "An expression's type depends on its operands', through unary and binary rules; left goes first, the first cause wins"
 unfoldable pub typeExpr : Env → Expr → Answer

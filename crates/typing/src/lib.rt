@@ -4,6 +4,7 @@
 mod cause;
 mod names;
 mod rules;
+mod table;
 mod ty;
 
 pub use cause::Cause;
@@ -13,5 +14,8 @@ pub use rules::Fit;
 pub use rules::binary_type;
 pub use rules::compatible_with;
 pub use rules::unary_type;
+pub use table::Found;
+pub use table::find;
+pub use table::has_name;
 pub use ty::Bits;
 pub use ty::Ty;

@@ -1,0 +1,84 @@
+-- Tables of places: of names and what is declared under each, as pairs of places in the document, one pair after the other.
+-- A later pair of one name replaces the earlier.
+use Prim.Native.Nat.{ℕ, zero, suc, _+_, _*_, _/_}
+use mathlib.Core.List.{List, []}
+use mathlib.Core.Bool.{Bool, true, false}
+use mathlib.Core.Option.{Option, none, some}
+use lib.ListN.{length, getD}
+use lib.Dec.{eqb}
+use Rattle.reading.specs.Read.{Read, ok, refused, pick}
+use Rattle.reading.specs.Limits.{maxU32, maxList}
+use Rattle.reading.specs.Item.{readNumber, readCount, readTag}
+use Rattle.reading.specs.Text.{Name}
+use Rattle.reading.specs.Skip.{skipItems, textAt}
+use Rattle.reading.specs.declared.item.Tag.{Tag}
+use Rattle.typing.specs.Types.{ExprType, bool, bit, enum}
+use Rattle.typing.specs.Names.{eqName, stateEnum}
+use Rattle.typing.specs.Env.{Env, given}
+use Rattle.typing.specs.declared.table.Found.{Found}
+use Rattle.typing.specs.declared.table.Found.the-variants.{At, Nothing}
+
+-- the place after the item at a place
+unfoldable pub placeAfter : {A : Type 0} → Read A → ℕ
+placeAfter (ok x n) = n
+placeAfter (refused f p) = p
+
+abbrev pub afterItem : List ℕ → ℕ → ℕ
+afterItem s at = placeAfter (skipItems 1 s at)
+
+-- what stands under a name in the first k pairs
+unfoldable pub findFirst : List ℕ → Name → List ℕ → ℕ → Option ℕ
+findFirst s n table zero = none
+findFirst s n table (suc k) =
+    pick (eqName (textAt s (getD table (2 * k) 0)) n) (some (getD table (2 * k + 1) 0)) (findFirst s n table k)
+
+unfoldable pub findIn : List ℕ → Name → List ℕ → Option ℕ
+findIn s n table = findFirst s n table (length table / 2)
+
+unfoldable pub found : Option ℕ → Found
+found none = Nothing
+found (some at) = At at
+
+-- the declared type at a place; bool where none stands there
+unfoldable pub widthType : Read ℕ → ExprType
+widthType (ok w n) = bit w
+widthType (refused f p) = bool
+
+unfoldable pub caseType : List ℕ → Read Tag → ExprType
+caseType s (ok t n) =
+    pick (eqb (t .case) 1) (widthType (readNumber maxU32 s n))
+    (pick (eqb (t .case) 2) (enum (textAt s n)) bool)
+caseType s (refused f p) = bool
+
+unfoldable pub exprTypeAt : List ℕ → ℕ → ExprType
+exprTypeAt s at = caseType s (readTag s at)
+
+-- whether one of so many names from a place on is the name
+unfoldable pub memberFrom : ℕ → List ℕ → ℕ → Name → Bool
+memberFrom zero s at n = false
+memberFrom (suc k) s at n = pick (eqName (textAt s at) n) true (memberFrom k s (afterItem s at) n)
+
+unfoldable pub memberOf : List ℕ → Read ℕ → Name → Bool
+memberOf s (ok c first) n = memberFrom c s first n
+memberOf s (refused f p) n = false
+
+-- whether the list of names at a place has the name
+unfoldable pub memberAt : List ℕ → ℕ → Name → Bool
+memberAt s at n = memberOf s (readCount maxList s at) n
+
+unfoldable pub typeFound : List ℕ → Option ℕ → Option ExprType
+typeFound s none = none
+typeFound s (some at) = some (exprTypeAt s at)
+
+unfoldable pub variantFound : List ℕ → Name → Option ℕ → Bool
+variantFound s n none = false
+variantFound s n (some at) = memberAt s at n
+
+-- what names mean by two tables: names with their types, bindings after variables; enums with their variants
+unfoldable pub envAt : List ℕ → List ℕ → List ℕ → Env
+envAt s names enums = record {
+  bindings = λ n. none;
+  vars = λ n. typeFound s (findIn s n names);
+  enums = λ n. given (findIn s n enums);
+  variants = λ e n. variantFound s n (findIn s e enums);
+}
