@@ -18,7 +18,7 @@ use Rattle.typing.specs.Causes.{andThen}
 use Rattle.typing.specs.Names.{stateEnum}
 use Rattle.typing.specs.Rules.{unaryType, binOp, binaryType}
 use Rattle.typing.specs.Env.{Env, named}
-use Rattle.typing.specs.Typing.{orVariant, resolveName, resolveVariant, resolvePath, typeExpr}
+use Rattle.typing.specs.Typing.{resolveState, orState, resolveName, resolveVariant, resolvePath, typeExpr}
 
 -- names mean the same
 pub record Agree (a b : Env) : Type 0 where
@@ -27,14 +27,14 @@ pub record Agree (a b : Env) : Type 0 where
   pub variants : (e n : Name) → a .variants e n ≡ b .variants e n
 
 module _ {a b : Env} (g : Agree a b) where
-  variant-agree : (n : Name) (o : Option ExprType) → orVariant a n o ≡ orVariant b n o
-  unfolding orVariant
-  variant-agree n (some t) = refl
-  variant-agree n none = rw (g .variants stateEnum n)
+  state-agree : (n : Name) (o : Option ExprType) → orState a n o ≡ orState b n o
+  unfolding orState resolveState
+  state-agree n (some t) = refl
+  state-agree n none = rw (g .variants stateEnum n)
 
   name-agree : (n : Name) → resolveName a n ≡ resolveName b n
   unfolding resolveName
-  name-agree n = rw (g .names n, variant-agree n)
+  name-agree n = rw (g .names n, state-agree n)
 
   path-agree : (p : List Name) → resolvePath a p ≡ resolvePath b p
   unfolding resolvePath resolveVariant

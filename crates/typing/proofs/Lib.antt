@@ -2,5 +2,7 @@
 pub mod NameLaws
 pub mod RuleLaws
 pub mod TableLaws
+pub mod PathLaws
+pub mod TypeLaws
 pub mod Settled
 pub mod Depends

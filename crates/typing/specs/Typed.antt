@@ -4,16 +4,20 @@ use mathlib.Core.Path.{_≡_}
 use mathlib.Core.List.{List}
 use Rattle.reading.specs.Read.{ok}
 use Rattle.reading.specs.Item.{readCase}
-use Rattle.reading.specs.Expr.{Expr, unary, binary, unaryOps, binOps, readExpr}
+use Rattle.reading.specs.Text.{Name}
+use Rattle.reading.specs.Expr.{Expr, unary, binary, unaryOps, binOps, readPath, readExpr}
 use Rattle.typing.specs.Env.{Env}
-use Rattle.typing.specs.Typing.{typeExpr}
+use Rattle.typing.specs.Typing.{resolvePath, typeExpr}
 use Rattle.typing.specs.Means.{typedOf, outcome}
-use Rattle.typing.specs.Tells.{Tells}
 use Rattle.typing.specs.declared.cause.Typed.{Typed}
 
+-- a path at a place, in an expression that ends at next
+pub record Resolves (env : Env) (s : List ℕ) (at next : ℕ) (r : Typed) : Type 0 where
+  pub of : (p : List Name) (n : ℕ) → readPath s at ≡ ok p n → typedOf s r ≡ outcome next (resolvePath env p)
+
 -- an expression at a place, with as many levels left
-abbrev pub Types : Env → ℕ → List ℕ → ℕ → Typed → Type 0
-Types env d s at r = Tells (readExpr d s at) (λ e n. typedOf s r ≡ outcome n (typeExpr env e))
+pub record Types (env : Env) (d : ℕ) (s : List ℕ) (at : ℕ) (r : Typed) : Type 0 where
+  pub of : (e : Expr) (n : ℕ) → readExpr d s at ≡ ok e n → typedOf s r ≡ outcome n (typeExpr env e)
 
 -- the fields of a unary expression at a place
 pub record TypesUnary (env : Env) (d : ℕ) (s : List ℕ) (at : ℕ) (r : Typed) : Type 0 where

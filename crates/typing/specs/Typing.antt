@@ -14,14 +14,18 @@ use Rattle.typing.specs.Names.{eqName, stateWord, stateEnum}
 use Rattle.typing.specs.Rules.{unaryType, binOp, binaryType}
 use Rattle.typing.specs.Env.{Env, named, stateVariants}
 
--- "then bindings, variables, variants of the last enum called State"
-unfoldable pub orVariant : Env → Name → Option ExprType → Answer
-orVariant env n (some t) = is t
-orVariant env n none = pick (stateVariants env n) (is (enum stateEnum)) (fails (unknownIdentifier n))
+-- "variants of the last enum called State"
+unfoldable pub resolveState : Env → Name → Answer
+resolveState env n = pick (stateVariants env n) (is (enum stateEnum)) (fails (unknownIdentifier n))
+
+-- "then bindings, variables"
+unfoldable pub orState : Env → Name → Option ExprType → Answer
+orState env n (some t) = is t
+orState env n none = resolveState env n
 
 -- "One segment: "state" first, always Enum State"
 unfoldable pub resolveName : Env → Name → Answer
-resolveName env n = pick (eqName n stateWord) (is (enum stateEnum)) (orVariant env n (named env n))
+resolveName env n = pick (eqName n stateWord) (is (enum stateEnum)) (orState env n (named env n))
 
 -- "Longer path: enum, then variant, then length over 2"; n is the path's length
 unfoldable pub resolveVariant : Env → Name → Name → ℕ → Answer

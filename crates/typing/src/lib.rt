@@ -2,7 +2,9 @@
 //
 // `specs/` says what is right, over the document's content; `proofs/` says why the code gives it.
 mod cause;
+mod expr;
 mod names;
+mod path;
 mod rules;
 mod table;
 mod ty;
@@ -10,6 +12,9 @@ mod ty;
 pub use cause::Cause;
 pub use cause::Typed;
 pub use cause::What;
+pub use expr::after_expr;
+pub use expr::type_expr;
+pub use path::resolve_path;
 pub use rules::Fit;
 pub use rules::binary_type;
 pub use rules::compatible_with;
