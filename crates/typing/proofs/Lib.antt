@@ -6,3 +6,4 @@ pub mod PathLaws
 pub mod TypeLaws
 pub mod Settled
 pub mod Depends
+pub mod EnvLaws

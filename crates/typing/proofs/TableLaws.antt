@@ -1,11 +1,13 @@
 -- What the code's scans of tables and lists mean, over whatever they are given.
-use Prim.Native.Nat.{ℕ, suc, _+_, _-_, _*_, _/_, _<_, _≤_}
+use Prim.Native.Nat.{ℕ, zero, suc, _+_, _-_, _*_, _/_, _<_, _≤_}
 use mathlib.Core.Path.{_≡_, refl, sym, ap, _∙_}
 use mathlib.Core.Bool.{Bool, true, false}
 use mathlib.Core.List.{List}
 use mathlib.Core.Option.{Option, none, some}
 use native.Mathlib.Omega.{arith}
-use lib.ListN.{length, getD}
+use native.Mathlib.Numerals.{add-one}
+use lib.ListN.{length, getD, set, length-set}
+use lib.Seq.{sets}
 use borrow.Author.Tests.{eq-eqb, ne-eqb}
 use Rattle.reading.specs.Read.{Read, ok, refused, pick}
 use Rattle.reading.specs.Limits.{maxU32, maxList}
@@ -24,11 +26,11 @@ use Rattle.reading.specs.declared.step.Step.{Step}
 use Rattle.reading.specs.declared.step.Step.the-variants as step
 use Rattle.reading.proofs.Rules.{no}
 use Rattle.reading.proofs.Answers.{num, out}
-use Rattle.reading.proofs.ItemLaws.{number-kind}
+use Rattle.reading.proofs.ItemLaws.{number-kind, count-kind}
 use Rattle.typing.specs.Types.{enum}
 use Rattle.typing.specs.Names.{eqName}
 use Rattle.typing.specs.Means.{tyOf}
-use Rattle.typing.specs.Table.{placeAfter, afterItem, findFirst, findIn, found, widthType, caseType, exprTypeAt, memberFrom, memberOf, memberAt}
+use Rattle.typing.specs.Table.{placeAfter, afterItem, afterHead, pairsFrom, pairsOf, pairsAt, Filled, findFirst, findIn, found, widthType, caseType, exprTypeAt, memberFrom, memberOf, memberAt}
 use Rattle.typing.specs.declared.ty.Ty.{Ty}
 use Rattle.typing.specs.declared.ty.Ty.the-variants as ty
 use Rattle.typing.specs.declared.table.Found.the-variants.{At, Nothing}
@@ -149,3 +151,63 @@ module _ (s : List ℕ) (at : ℕ) where
       pub type-beyond : (t .case ≡ 1 → ⊥) → (t .case ≡ 2 → ⊥) → tyOf s ty.Bool ≡ exprTypeAt s at
       unfolding tyOf exprTypeAt caseType pick
       type-beyond h k = rw (tag-was _ e q, ne-eqb (t .case) 1 h, ne-eqb (t .case) 2 k)
+
+pub pairs-length : (c : ℕ) (s : List ℕ) (k : ℕ) → length (pairsFrom c s k) ≡ 2 * c
+unfolding pairsFrom
+pairs-length zero s k = refl
+pairs-length (suc c) s k = let q = pairs-length c s (afterItem s k) in omega arith
+
+-- the place after a record's head
+pub head-to : (m : Read ℕ) {r : Answer} {v : ℕ} {c : Cursor} → r ≡ answer m → r ≡ Got v c → c .at ≡ placeAfter m
+unfolding placeAfter
+head-to m e q = rw (num m e q)
+
+pub head-out : (m : Read ℕ) {r : Answer} {f : Fault} {p : ℕ} → r ≡ answer m → r ≡ Refused f p → p ≡ placeAfter m
+unfolding placeAfter
+head-out m e q = rw (out m e q)
+
+-- a table that is filled: what is still to come, put from place j on, makes the whole
+module _ (s : List ℕ) (at : ℕ) (table : List ℕ) where
+  pub record Filling (left k j : ℕ) (now : List ℕ) : Type 0 where
+    pub size : length now ≡ length table
+    pub few : j + 2 * left ≤ 2 * maxList
+    pub place : j + 2 * left ≡ length (pairsAt s at)
+    pub rest : sets now j (pairsFrom left s k) ≡ sets table 0 (pairsAt s at)
+
+  module _ {a : Answer} (e : a ≡ answer (readCount maxList s at)) where
+    pub fill-refused : {f : Fault} {p : ℕ} → a ≡ Refused f p → Filled table (pairsAt s at) 0 table
+    unfolding pairsAt pairsOf
+    fill-refused q = rw (out _ e q) (record { many = refl; words = refl })
+
+    pub fill-start : {c : ℕ} {first : Cursor} → a ≡ Got c first → Filling c (first .at) 0 table
+    unfolding pairsAt pairsOf
+    fill-start {c} {first} q =
+        let r = num _ e q in
+        let l = pairs-length c s (first .at) in
+        let m = count-kind s at maxList c (first .at) r in
+        let u : pairsAt s at ≡ pairsFrom c s (first .at) = rw r in
+        let o = m .1 in
+        record { size = refl; few = omega arith; place = let v = sym l ∙ ap length (sym u) in omega arith; rest = ap (sets table 0) (sym u) }
+
+  module _ {left k j : ℕ} {now : List ℕ} (g : Filling left k j now) where
+    pub fill-done : left ≤ 0 → Filled table (pairsAt s at) j now
+    unfolding pairsFrom
+    fill-done h =
+        let z : left ≡ 0 = omega arith in
+        let p = g .place in
+        record { many = omega arith; words = rw z at (g .rest) }
+
+    pub fill-more : {name under k' : ℕ} {now' now″ : List ℕ} → 0 < left → name ≡ afterHead s k → now' ≡ set now j name → under ≡ afterItem s name → now″ ≡ set now' (j + 1) under → k' ≡ afterItem s k → Filling (left - 1) k' (j + 2) now″
+    unfolding pairsFrom
+    fill-more {name} {under} {k'} {now'} {now″} h a b c d i =
+        let z : left ≡ suc (left - 1) = omega arith in
+        let p = g .place in
+        let m = g .few in
+        let q : j + 2 ≡ suc (suc j) = omega arith in
+        let w = ap (λ (l : ℕ). sets now j (pairsFrom l s k)) (sym z) ∙ g .rest in
+        record {
+          size = rw (d, b) (length-set (set now j name) (j + 1) under ∙ length-set now j name ∙ g .size);
+          few = omega arith;
+          place = omega arith;
+          rest = rw (d, b, i, c, a, add-one j, q) w;
+        }

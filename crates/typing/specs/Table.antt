@@ -1,14 +1,16 @@
 -- Tables of places: of names and what is declared under each, as pairs of places in the document, one pair after the other.
 -- A later pair of one name replaces the earlier.
 use Prim.Native.Nat.{ℕ, zero, suc, _+_, _*_, _/_}
-use mathlib.Core.List.{List, []}
+use mathlib.Core.Path.{_≡_}
+use mathlib.Core.List.{List, [], _∷_}
 use mathlib.Core.Bool.{Bool, true, false}
 use mathlib.Core.Option.{Option, none, some}
 use lib.ListN.{length, getD}
+use lib.Seq.{sets}
 use lib.Dec.{eqb}
 use Rattle.reading.specs.Read.{Read, ok, refused, pick}
 use Rattle.reading.specs.Limits.{maxU32, maxList}
-use Rattle.reading.specs.Item.{readNumber, readCount, readTag}
+use Rattle.reading.specs.Item.{readKind, readNumber, readCount, readTag}
 use Rattle.reading.specs.Text.{Name}
 use Rattle.reading.specs.Skip.{skipItems, textAt}
 use Rattle.reading.specs.declared.item.Tag.{Tag}
@@ -25,6 +27,28 @@ placeAfter (refused f p) = p
 
 abbrev pub afterItem : List ℕ → ℕ → ℕ
 afterItem s at = placeAfter (skipItems 1 s at)
+
+-- the place after the head of the record at a place
+abbrev pub afterHead : List ℕ → ℕ → ℕ
+afterHead s at = placeAfter (readKind 4 s at)
+
+-- the table of as many records from a place on: each one's name and what follows the name
+unfoldable pub pairsFrom : ℕ → List ℕ → ℕ → List ℕ
+pairsFrom zero s at = []
+pairsFrom (suc k) s at = afterHead s at ∷ (afterItem s (afterHead s at) ∷ pairsFrom k s (afterItem s at))
+
+unfoldable pub pairsOf : List ℕ → Read ℕ → List ℕ
+pairsOf s (ok count first) = pairsFrom count s first
+pairsOf s (refused f p) = []
+
+-- the table of the list at a place
+unfoldable pub pairsAt : List ℕ → ℕ → List ℕ
+pairsAt s at = pairsOf s (readCount maxList s at)
+
+-- a table is filled from its start on: the words past it keep their contents, and what does not fit is left out
+pub record Filled (table pairs : List ℕ) (r : ℕ) (table′ : List ℕ) : Type 0 where
+  pub many : r ≡ length pairs
+  pub words : table′ ≡ sets table 0 pairs
 
 -- what stands under a name in the first k pairs
 unfoldable pub findFirst : List ℕ → Name → List ℕ → ℕ → Option ℕ

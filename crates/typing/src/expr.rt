@@ -27,8 +27,8 @@ pub fn type_expr<'a>(
     doc: &'a [u8],
     at: usize,
     depth: u64,
-    names: &'a [u32],
-    enums: &'a [u32],
+    names: &'a [usize],
+    enums: &'a [usize],
 ) -> Typed
     ensures { λ r. ⌜ Types (envAt (now (doc .entry)) (now (names .entry)) (now (enums .entry))) depth (now (doc .entry)) at r ⌝ }
 {
@@ -57,8 +57,8 @@ pub fn type_unary<'a>(
     doc: &'a [u8],
     at: usize,
     depth: u64,
-    names: &'a [u32],
-    enums: &'a [u32],
+    names: &'a [usize],
+    enums: &'a [usize],
 ) -> Typed
     ensures { λ r. ⌜ TypesUnary (envAt (now (doc .entry)) (now (names .entry)) (now (enums .entry))) depth (now (doc .entry)) at r ⌝ }
 {
@@ -79,8 +79,8 @@ pub fn type_binary<'a>(
     doc: &'a [u8],
     at: usize,
     depth: u64,
-    names: &'a [u32],
-    enums: &'a [u32],
+    names: &'a [usize],
+    enums: &'a [usize],
 ) -> Typed
     ensures { λ r. ⌜ TypesBinary (envAt (now (doc .entry)) (now (names .entry)) (now (enums .entry))) depth (now (doc .entry)) at r ⌝ }
 {

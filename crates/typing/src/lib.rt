@@ -3,6 +3,7 @@
 // `specs/` says what is right, over the document's content; `proofs/` says why the code gives it.
 mod cause;
 mod expr;
+mod fill;
 mod names;
 mod path;
 mod rules;
@@ -14,6 +15,7 @@ pub use cause::Typed;
 pub use cause::What;
 pub use expr::after_expr;
 pub use expr::type_expr;
+pub use fill::fill_table;
 pub use path::resolve_path;
 pub use rules::Fit;
 pub use rules::binary_type;

@@ -21,7 +21,7 @@ ghost use Rattle.typing.specs.Typed.{Resolves};
 ghost use Rattle.typing.specs.Table.{afterItem, envAt};
 
 // Whether a name is a variant of the last enum called State.
-pub fn state_variant<'a>(doc: &'a [u8], enums: &'a [u32], name: &'a [u8]) -> bool
+pub fn state_variant<'a>(doc: &'a [u8], enums: &'a [usize], name: &'a [u8]) -> bool
     ensures { λ r. ⌜ r ≡ stateVariants (envAt (now (doc .entry)) [] (now (enums .entry))) (now (name .entry)) ⌝ }
 {
     let f = find(doc, enums, b"State");
@@ -32,7 +32,7 @@ pub fn state_variant<'a>(doc: &'a [u8], enums: &'a [u32], name: &'a [u8]) -> boo
 }
 
 // A name that is no binding and no variable.
-pub fn resolve_state<'a>(doc: &'a [u8], at: usize, next: usize, enums: &'a [u32]) -> Typed
+pub fn resolve_state<'a>(doc: &'a [u8], at: usize, next: usize, enums: &'a [usize]) -> Typed
     ensures { λ r. ⌜ typedOf (now (doc .entry)) r ≡ outcome next (resolveState (envAt (now (doc .entry)) [] (now (enums .entry))) (textAt (now (doc .entry)) at)) ⌝ }
 {
     if state_variant(doc, enums, text_at(doc, at)) {
@@ -46,8 +46,8 @@ pub fn resolve_name<'a>(
     doc: &'a [u8],
     at: usize,
     next: usize,
-    names: &'a [u32],
-    enums: &'a [u32],
+    names: &'a [usize],
+    enums: &'a [usize],
 ) -> Typed
     ensures { λ r. ⌜ typedOf (now (doc .entry)) r ≡ outcome next (resolveName (envAt (now (doc .entry)) (now (names .entry)) (now (enums .entry))) (textAt (now (doc .entry)) at)) ⌝ }
 {
@@ -67,7 +67,7 @@ pub fn resolve_variant<'a>(
     at: usize,
     segments: u64,
     next: usize,
-    enums: &'a [u32],
+    enums: &'a [usize],
 ) -> Typed
     ensures { λ r. ⌜ typedOf (now (doc .entry)) r ≡ outcome next (resolveVariant (envAt (now (doc .entry)) [] (now (enums .entry))) (textAt (now (doc .entry)) at) (textAt (now (doc .entry)) (afterItem (now (doc .entry)) at)) segments) ⌝ }
 {
@@ -90,8 +90,8 @@ pub fn resolve_path<'a>(
     doc: &'a [u8],
     at: usize,
     next: usize,
-    names: &'a [u32],
-    enums: &'a [u32],
+    names: &'a [usize],
+    enums: &'a [usize],
 ) -> Typed
     ensures { λ r. ⌜ Resolves (envAt (now (doc .entry)) (now (names .entry)) (now (enums .entry))) (now (doc .entry)) at next r ⌝ }
 {

@@ -31,16 +31,15 @@ pub fn after(doc: &[u8], at: usize) -> usize
 }
 
 // What stands under a name in a table: the last.
-pub fn find<'a>(doc: &'a [u8], table: &'a [u32], name: &'a [u8]) -> Found
+pub fn find<'a>(doc: &'a [u8], table: &'a [usize], name: &'a [u8]) -> Found
     ensures { λ r. ⌜ r ≡ found (findIn (now (doc .entry)) (now (name .entry)) (now (table .entry))) ⌝ }
 {
     let mut i = table.len() / 2;
     while 0 < i {
         i -= 1;
-        let key = table[2 * i] as usize;
+        let key = table[2 * i];
         if same(text_at(doc, key), name) {
-            let under = table[2 * i + 1] as usize;
-            return Found::At(under);
+            return Found::At(table[2 * i + 1]);
         }
     }
     Found::Nothing

@@ -1,5 +1,5 @@
 -- The pairs before place i decide.
-use Prim.Native.Nat.{_+_, _*_, _-_, _≤_}
+use Prim.Native.Nat.{_*_, _≤_}
 use mathlib.Core.Path.{_≡_}
 use native.Mathlib.Omega.{arith}
 use lib.ListN.{length}
@@ -15,12 +15,6 @@ Inv-loop doc table name i₀ i = (2 * i ≤ length table) × (findFirst doc name
 abbrev μ-loop : tie.MeasureT-loop
 μ-loop doc table name i₀ i = i
 
-cast-key : tie.Need-cast-key Inv-loop μ-loop
-cast-key c = omega (arith, c .shared-slice-known4 .given (2 * (c .before .before .loop .i - 1)))
-
-cast-under : tie.Need-cast-under Inv-loop μ-loop
-cast-under c = omega (arith, c .shared-slice-known5 .given (2 * (c .before .before .before .before .before .before .loop .i - 1) + 1))
-
 pub find-spec : {M : Type 1} → statement M
 find-spec =
     tie.close
@@ -32,14 +26,12 @@ find-spec =
     (λ c. omega arith)
     (λ c. omega arith)
     (λ c. omega arith)
-    cast-key
     (λ c κs. search needs)
     (λ c κs. search needs)
     (λ c. omega arith)
     (λ c. omega arith)
     (λ c. omega arith)
     (λ c. omega arith)
-    cast-under
     (λ c. search find-hit)
     (λ c. omega arith)
     (λ c. (omega arith, search find-miss))
