@@ -4,6 +4,7 @@ pub mod RuleLaws
 pub mod TableLaws
 pub mod PathLaws
 pub mod TypeLaws
+pub mod ShapeLaws
 pub mod Settled
 pub mod Depends
 pub mod EnvLaws

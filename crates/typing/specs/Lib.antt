@@ -15,3 +15,4 @@ pub mod Means
 pub mod Tells
 pub mod Table
 pub mod Typed
+pub mod Shape

@@ -4,6 +4,7 @@
 mod cause;
 mod expr;
 mod fill;
+mod formula;
 mod names;
 mod path;
 mod rules;
@@ -16,6 +17,8 @@ pub use cause::What;
 pub use expr::after_expr;
 pub use expr::type_expr;
 pub use fill::fill_table;
+pub use formula::after_formula;
+pub use formula::bounded_always_error;
 pub use path::resolve_path;
 pub use rules::Fit;
 pub use rules::binary_type;
