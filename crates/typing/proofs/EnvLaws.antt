@@ -35,7 +35,7 @@ use Rattle.typing.proofs.TableLaws.{pairs-length}
 use Rattle.typing.proofs.Depends.{Agree}
 
 -- an entry, and those after it
-record Uncons {A : Type 0} (F : Reader A) (s : List ℕ) (c k : ℕ) (l : List A) (n : ℕ) : Type 0 where
+pub record Uncons {A : Type 0} (F : Reader A) (s : List ℕ) (c k : ℕ) (l : List A) (n : ℕ) : Type 0 where
   pub head : A
   pub end : ℕ
   pub tail : List A
@@ -47,12 +47,12 @@ uncons : {A : Type 0} (F : Reader A) (s : List ℕ) (c k : ℕ) → Gives (Uncon
 unfolding entries
 uncons F s c k = gives-bind _ _ _ λ a m q. gives-map (Uncons F s c k) _ _ λ ys n w. record { head = a; end = m; tail = ys; here = q; rest = w; split = refl }
 
-record Entry {A : Type 0} (F : Reader A) (s : List ℕ) (k : ℕ) (x : A) (xs : List A) (n : ℕ) : Type 0 where
+pub record Entry {A : Type 0} (F : Reader A) (s : List ℕ) (k : ℕ) (x : A) (xs : List A) (n : ℕ) : Type 0 where
   pub end : ℕ
   pub here : F s k ≡ ok x end
   pub rest : entries (length xs) F s end ≡ ok xs n
 
-entry : {A : Type 0} (F : Reader A) (s : List ℕ) (k : ℕ) (x : A) (xs : List A) (n : ℕ) → entries (length (x ∷ xs)) F s k ≡ ok (x ∷ xs) n → Entry F s k x xs n
+pub entry : {A : Type 0} (F : Reader A) (s : List ℕ) (k : ℕ) (x : A) (xs : List A) (n : ℕ) → entries (length (x ∷ xs)) F s k ≡ ok (x ∷ xs) n → Entry F s k x xs n
 entry {A} F s k x xs n e =
     let u = uncons F s (length xs) k (x ∷ xs) n e in
     let q = u .split in
@@ -61,11 +61,11 @@ entry {A} F s k x xs n e =
     record { end = u .end; here = u .here ∙ ap (λ (z : A). ok z (u .end)) a; rest = u .rest ∙ ap (λ (z : List A). ok z n) b }
 
 -- the place after an item that reads
-after-is : {A : Type 0} {read : Reader A} {enc : A → List ℕ} {Within : A → Type 0} {D : List ℕ → ℕ → Type 0} → Laws read enc Within 1 D → (s : List ℕ) → Bytes s → (at : ℕ) → Gives (λ _ n. afterItem s at ≡ n) (read s at)
+pub after-is : {A : Type 0} {read : Reader A} {enc : A → List ℕ} {Within : A → Type 0} {D : List ℕ → ℕ → Type 0} → Laws read enc Within 1 D → (s : List ℕ) → Bytes s → (at : ℕ) → Gives (λ _ n. afterItem s at ≡ n) (read s at)
 unfolding placeAfter
 after-is L s B at x n e = ap placeAfter (passed L s B at x n e)
 
-fields-head : (k : ℕ) (s : List ℕ) (at : ℕ) → Gives (λ _ n. afterHead s at ≡ n) (readFields k s at)
+pub fields-head : (k : ℕ) (s : List ℕ) (at : ℕ) → Gives (λ _ n. afterHead s at ≡ n) (readFields k s at)
 unfolding readFields placeAfter
 fields-head k s at = gives-bind _ _ _ λ v n e. gives-pick _ _ _ _ (λ _. gives-ok (λ _ m. afterHead s at ≡ m) tt n (ap placeAfter e)) (λ _. gives-refused _ _ _)
 

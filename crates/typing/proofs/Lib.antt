@@ -8,3 +8,4 @@ pub mod ShapeLaws
 pub mod Settled
 pub mod Depends
 pub mod EnvLaws
+pub mod JudgeLaws

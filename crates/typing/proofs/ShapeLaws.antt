@@ -24,13 +24,12 @@ use Rattle.reading.specs.declared.item.Tagged.{Tagged}
 use Rattle.reading.specs.declared.item.Tagged.the-variants as tagged
 use Rattle.reading.proofs.Rules.{no}
 use Rattle.reading.proofs.Answers.{num, out}
-use Rattle.reading.proofs.HeadSound.{Bytes}
 use Rattle.reading.proofs.FormulaLaws.{formula-laws}
 use Rattle.reading.proofs.CaseViews.{formula-at, by-tag}
 use Rattle.reading.proofs.Walks.{passed}
 use Rattle.typing.specs.Formulas.{boundedAlwaysError}
 use Rattle.typing.specs.Tells.{Ends}
-use Rattle.typing.specs.Table.{placeAfter, afterItem}
+use Rattle.typing.specs.Table.{placeAfter, Past}
 use Rattle.typing.specs.Shape.{kindOf, Bounds, BoundsAlways, BoundsSometime, BoundsTwo}
 use Rattle.typing.specs.declared.formula.Kind.{Kind}
 use Rattle.typing.specs.declared.formula.Kind.the-variants.{Input, Output, Expression, One, Always, Sometime, Two, Unknown}
@@ -41,9 +40,9 @@ unfolding kindOf
 kind-beyond k h = sym (List·getD-eq-default (Input ∷ Output ∷ Expression ∷ One ∷ Two ∷ Two ∷ Two ∷ One ∷ One ∷ Always ∷ Sometime ∷ One ∷ Two ∷ []) Unknown {n = k} h)
 
 -- a formula ends where the item does
-pub formula-ends : (d : ℕ) (s : List ℕ) (at : ℕ) {r : ℕ} → Bytes s → r ≡ afterItem s at → Ends (readFormula d s at) r
+pub formula-ends : (d : ℕ) (s : List ℕ) (at : ℕ) {r : ℕ} → Past s at r → Ends (readFormula d s at) r
 unfolding placeAfter
-formula-ends d s at B e = record { of = λ x n q. e ∙ ap placeAfter (passed (formula-laws d) s B at x n q) }
+formula-ends d s at e = record { of = λ x n q. e .is ∙ ap placeAfter (passed (formula-laws d) s (e .each) at x n q) }
 
 -- what a formula is made of
 pub data Shape : Type 0 where
@@ -55,7 +54,7 @@ pub data Shape : Type 0 where
   sometime : ℕ → Formula → Shape
   two : Formula → Formula → Shape
 
-pub shape : Formula → Shape
+unfoldable pub shape : Formula → Shape
 shape (formula.inputIs p) = input p
 shape (formula.outputHas p) = output
 shape (formula.expr e) = expression e

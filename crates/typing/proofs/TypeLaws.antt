@@ -17,7 +17,6 @@ use Rattle.reading.specs.declared.item.Tagged.{Tagged}
 use Rattle.reading.specs.declared.item.Tagged.the-variants as tagged
 use Rattle.reading.proofs.Rules.{no}
 use Rattle.reading.proofs.Answers.{num, out}
-use Rattle.reading.proofs.HeadSound.{Bytes}
 use Rattle.reading.proofs.ExprLaws.{expr-laws}
 use Rattle.reading.proofs.CaseViews.{expr-at, by-tag}
 use Rattle.reading.proofs.Walks.{passed}
@@ -29,7 +28,7 @@ use Rattle.typing.specs.Env.{Env}
 use Rattle.typing.specs.Typing.{resolvePath, typeExpr}
 use Rattle.typing.specs.Means.{tyOf, causeOf, Outcome, good, bad, typedOf, outcome}
 use Rattle.typing.specs.Tells.{Ends}
-use Rattle.typing.specs.Table.{placeAfter, afterItem}
+use Rattle.typing.specs.Table.{placeAfter, Past}
 use Rattle.typing.specs.Typed.{Resolves, Types, TypesUnary, TypesBinary}
 use Rattle.typing.specs.declared.ty.Ty.{Ty}
 use Rattle.typing.specs.declared.ty.Ty.the-variants as ty
@@ -39,9 +38,9 @@ use Rattle.typing.specs.declared.cause.Typed.the-variants.{Is, Fails}
 use Rattle.typing.proofs.TableLaws.{tag-was, tag-out}
 
 -- an expression ends where the item does
-pub expr-ends : (d : ℕ) (s : List ℕ) (at : ℕ) {r : ℕ} → Bytes s → r ≡ afterItem s at → Ends (readExpr d s at) r
+pub expr-ends : (d : ℕ) (s : List ℕ) (at : ℕ) {r : ℕ} → Past s at r → Ends (readExpr d s at) r
 unfolding placeAfter
-expr-ends d s at B e = record { of = λ x n q. e ∙ ap placeAfter (passed (expr-laws d) s B at x n q) }
+expr-ends d s at e = record { of = λ x n q. e .is ∙ ap placeAfter (passed (expr-laws d) s (e .each) at x n q) }
 
 -- an answer that was taken apart
 type-was : (a : TypeAnswer) {t : ExprType} {m n : ℕ} → good t m ≡ outcome n a → (a ≡ is t) × (m ≡ n)

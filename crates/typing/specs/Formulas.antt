@@ -12,7 +12,7 @@ use Rattle.reading.specs.Formula.{Formula}
 use Rattle.reading.specs.Formula as formula
 use Rattle.typing.specs.Causes.{Cause, bindingInFormula, Answer, is, fails, firstOf}
 use Rattle.typing.specs.Rules.{mustBool}
-use Rattle.typing.specs.Env.{Env}
+use Rattle.typing.specs.Env.{Env, given}
 use Rattle.typing.specs.Typing.{typeExpr}
 use Rattle.typing.specs.declared.cause.What.{What}
 use Rattle.typing.specs.declared.cause.What.the-variants.{Formula as FormulaExpr}
@@ -22,24 +22,21 @@ unfoldable pub boolCause : What → Answer → Option Cause
 boolCause what (is t) = mustBool what t
 boolCause what (fails c) = some c
 
--- a field with a name
-unfoldable pub bindsField : Option Name → Option Cause → Option Cause
-bindsField none rest = rest
-bindsField (some n) rest = some bindingInFormula
+-- whether a field has a name
+unfoldable pub fieldsBind : List PatternField → Bool
+fieldsBind [] = false
+fieldsBind (p ∷ ps) = pick (given (p .name)) true (fieldsBind ps)
 
-unfoldable pub bindsFields : List PatternField → Option Cause
-bindsFields [] = none
-bindsFields (p ∷ ps) = bindsField (p .name) (bindsFields ps)
-
-unfoldable pub bindsVariant : Option PatternVariant → Option Cause
-bindsVariant none = none
-bindsVariant (some (pattern.unit n)) = none
-bindsVariant (some (pattern.struct n ps)) = bindsFields ps
+unfoldable pub variantBinds : Option PatternVariant → Bool
+variantBinds none = false
+variantBinds (some (pattern.unit n)) = false
+variantBinds (some (pattern.struct n ps)) = fieldsBind ps
 
 -- check_pattern_group
 unfoldable pub checkPatternGroup : Pattern → Option Cause
-checkPatternGroup p = bindsVariant (p .variant)
+checkPatternGroup p = pick (variantBinds (p .variant)) (some bindingInFormula) none
 
+-- type_formula
 unfoldable pub typeFormula : Env → Formula → Option Cause
 typeFormula env (formula.inputIs p) = checkPatternGroup p
 typeFormula env (formula.outputHas p) = none

@@ -16,3 +16,4 @@ pub mod Tells
 pub mod Table
 pub mod Typed
 pub mod Shape
+pub mod Judges

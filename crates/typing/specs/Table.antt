@@ -1,6 +1,6 @@
 -- Tables of places: of names and what is declared under each, as pairs of places in the document, one pair after the other.
 -- A later pair of one name replaces the earlier.
-use Prim.Native.Nat.{ℕ, zero, suc, _+_, _*_, _/_}
+use Prim.Native.Nat.{ℕ, zero, suc, _+_, _*_, _/_, _<_}
 use mathlib.Core.Path.{_≡_}
 use mathlib.Core.List.{List, [], _∷_}
 use mathlib.Core.Bool.{Bool, true, false}
@@ -27,6 +27,11 @@ placeAfter (refused f p) = p
 
 abbrev pub afterItem : List ℕ → ℕ → ℕ
 afterItem s at = placeAfter (skipItems 1 s at)
+
+-- r is the place after the item at a place of a document, which is made of bytes
+pub record Past (s : List ℕ) (at r : ℕ) : Type 0 where
+  pub is : r ≡ afterItem s at
+  pub each : (i : ℕ) → getD s i 0 < 256
 
 -- the place after the head of the record at a place
 abbrev pub afterHead : List ℕ → ℕ → ℕ

@@ -18,7 +18,7 @@ fn store(table: &mut [usize], j: usize, place: usize)
 }
 
 // The place after the head of the record at a place.
-fn after_head(doc: &[u8], at: usize) -> usize
+pub fn after_head(doc: &[u8], at: usize) -> usize
     ensures { λ r. ⌜ r ≡ afterHead (now (doc .entry)) at ⌝ }
 {
     let c = Cursor { at };

@@ -1,6 +1,7 @@
 // Typing: the types of expressions, patterns, outputs and formulas of an accepted document, with their causes.
 //
 // `specs/` says what is right, over the document's content; `proofs/` says why the code gives it.
+mod binds;
 mod cause;
 mod expr;
 mod fill;
@@ -9,6 +10,7 @@ mod names;
 mod path;
 mod rules;
 mod table;
+mod temporal;
 mod ty;
 
 pub use cause::Cause;
@@ -27,5 +29,6 @@ pub use rules::unary_type;
 pub use table::Found;
 pub use table::find;
 pub use table::has_name;
+pub use temporal::type_formula;
 pub use ty::Bits;
 pub use ty::Ty;

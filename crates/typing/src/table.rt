@@ -10,7 +10,7 @@ ghost use mathlib.Core.Path.{_≡_};
 ghost use Rattle.reading.specs.Item.{readNumber};
 ghost use Rattle.reading.specs.Limits.{maxU32};
 ghost use Rattle.typing.specs.Means.{tyOf};
-ghost use Rattle.typing.specs.Table.{afterItem, findIn, found, widthType, exprTypeAt, memberAt};
+ghost use Rattle.typing.specs.Table.{Past, findIn, found, widthType, exprTypeAt, memberAt};
 
 // What stands under a name: its place.
 pub enum Found {
@@ -20,7 +20,7 @@ pub enum Found {
 
 // The place after the item at a place.
 pub fn after(doc: &[u8], at: usize) -> usize
-    ensures { λ r. ⌜ r ≡ afterItem (now (doc .entry)) at ⌝ }
+    ensures { λ r. ⌜ Past (now (doc .entry)) at r ⌝ }
 {
     let c = Cursor { at };
     let r = c.skip(doc, 1);

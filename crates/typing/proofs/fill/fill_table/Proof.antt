@@ -12,7 +12,7 @@ abbrev μ-loop : tie.MeasureT-loop
 μ-loop doc at table₀ count k₀ j₀ left₀ table k j left = left
 
 loop-again : tie.Need-loop-again Inv-loop μ-loop
-loop-again c = fill-more _ _ _ (c .before .before .before .before .before .before .before .before .before .before .before .before .loop .inv) (c .before .before .before .before .before .before .before .before .before .before .before .loop-test .taken) (c .before .before .before .before .before .before .before .before .before .before .after-head .ensures) (c .before .before .before .before .before .before .before .before .store .ensures) (c .before .before .before .before .before .after .ensures) (c .before .before .before .store2 .ensures) (c .after2 .ensures)
+loop-again c = fill-more _ _ _ (c .before .before .before .before .before .before .before .before .before .before .before .before .loop .inv) (c .before .before .before .before .before .before .before .before .before .before .before .loop-test .taken) (c .before .before .before .before .before .before .before .before .before .before .after-head .ensures) (c .before .before .before .before .before .before .before .before .store .ensures) (c .before .before .before .before .before .after .ensures .is) (c .before .before .before .store2 .ensures) (c .after2 .ensures .is)
 
 pub fill-table-spec : {M : Type 1} → statement M
 fill-table-spec =
