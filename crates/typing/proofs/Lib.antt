@@ -1,4 +1,5 @@
 -- Laws that belong to no one function, from the lowest to the highest.
+pub mod FitLaws
 pub mod NameLaws
 pub mod RuleLaws
 pub mod TableLaws
@@ -9,3 +10,4 @@ pub mod Settled
 pub mod Depends
 pub mod EnvLaws
 pub mod JudgeLaws
+pub mod AcceptLaws

@@ -17,3 +17,4 @@ pub mod Table
 pub mod Typed
 pub mod Shape
 pub mod Judges
+pub mod Accepts
