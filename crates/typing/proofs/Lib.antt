@@ -1,5 +1,6 @@
 -- Laws that belong to no one function, from the lowest to the highest.
 pub mod FitLaws
+pub mod VersionLaws
 pub mod NameLaws
 pub mod RuleLaws
 pub mod TableLaws

@@ -2,7 +2,7 @@
 use Prim.Native.Nat.{ℕ}
 use mathlib.Core.List.{List, [], _∷_}
 use mathlib.Core.Bool.{Bool, true, false}
-use lib.ListN.{length}
+use lib.ListN.{length, getD}
 use lib.Dec.{ltb, eqb}
 use Rattle.reading.specs.Read.{pick}
 
@@ -37,3 +37,20 @@ twoOrThree n = pick (eqb n 2) true (eqb n 3)
 -- is_valid_version_format
 unfoldable pub isValidVersionFormat : List ℕ → Bool
 isValidVersionFormat v = pick (twoOrThree (length (split v))) (allParts (split v)) false
+
+-- the same from left to right: 0, 2 and 4 wait for the first digit of a part, 1, 3 and 5 stand in one, 6 is out
+unfoldable pub afterDot : ℕ → ℕ
+afterDot n = getD (6 ∷ 2 ∷ 6 ∷ 4 ∷ []) n 6
+
+unfoldable pub afterDigit : ℕ → ℕ
+afterDigit n = getD (1 ∷ 1 ∷ 3 ∷ 3 ∷ 5 ∷ 5 ∷ []) n 6
+
+unfoldable pub nextState : ℕ → ℕ → ℕ
+nextState n b = pick (eqb b 46) (afterDot n) (pick (isDigit b) (afterDigit n) 6)
+
+unfoldable pub isEnd : ℕ → Bool
+isEnd n = pick (eqb n 3) true (eqb n 5)
+
+unfoldable pub run : ℕ → List ℕ → Bool
+run n [] = isEnd n
+run n (b ∷ bs) = run (nextState n b) bs

@@ -14,6 +14,7 @@ mod rules;
 mod table;
 mod temporal;
 mod ty;
+mod version;
 
 pub use cause::Cause;
 pub use cause::Typed;
@@ -35,3 +36,4 @@ pub use table::has_name;
 pub use temporal::type_formula;
 pub use ty::Bits;
 pub use ty::Ty;
+pub use version::is_valid_version_format;
