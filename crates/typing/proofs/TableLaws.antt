@@ -1,0 +1,213 @@
+-- What the code's scans of tables and lists mean, over whatever they are given.
+use Prim.Native.Nat.{ℕ, zero, suc, _+_, _-_, _*_, _/_, _<_, _≤_}
+use mathlib.Core.Path.{_≡_, refl, sym, ap, _∙_}
+use mathlib.Core.Bool.{Bool, true, false}
+use mathlib.Core.List.{List}
+use mathlib.Core.Option.{Option, none, some}
+use native.Mathlib.Omega.{arith}
+use native.Mathlib.Numerals.{add-one}
+use lib.ListN.{length, getD, set, length-set}
+use lib.Seq.{sets}
+use borrow.Author.Tests.{eq-eqb, ne-eqb}
+use Rattle.reading.specs.Read.{Read, ok, refused, pick}
+use Rattle.reading.specs.Limits.{maxU32, maxList}
+use Rattle.reading.specs.Item.{readNumber, readCount, readTag}
+use Rattle.reading.specs.Text.{Name}
+use Rattle.reading.specs.Skip.{skipItems, textAt}
+use Rattle.reading.specs.Link.{answer, taggedOf, stands}
+use Rattle.reading.specs.declared.cursor.Cursor.{Cursor}
+use Rattle.reading.specs.declared.fault.Fault.{Fault}
+use Rattle.reading.specs.declared.item.Answer.{Answer}
+use Rattle.reading.specs.declared.item.Answer.the-variants.{Got, Refused}
+use Rattle.reading.specs.declared.item.Tag.{Tag}
+use Rattle.reading.specs.declared.item.Tagged.{Tagged}
+use Rattle.reading.specs.declared.item.Tagged.the-variants as tagged
+use Rattle.reading.specs.declared.step.Step.{Step}
+use Rattle.reading.specs.declared.step.Step.the-variants as step
+use Rattle.reading.proofs.Rules.{no}
+use Rattle.reading.proofs.Answers.{num, out}
+use Rattle.reading.proofs.ItemLaws.{number-kind, count-kind}
+use Rattle.typing.specs.Types.{enum}
+use Rattle.typing.specs.Names.{eqName}
+use Rattle.typing.specs.Means.{tyOf}
+use Rattle.typing.specs.Table.{placeAfter, afterItem, afterHead, pairsFrom, pairsOf, pairsAt, Filled, findFirst, findIn, found, widthType, caseType, exprTypeAt, memberFrom, memberOf, memberAt}
+use Rattle.typing.specs.declared.ty.Ty.{Ty}
+use Rattle.typing.specs.declared.ty.Ty.the-variants as ty
+use Rattle.typing.specs.declared.table.Found.the-variants.{At, Nothing}
+
+-- what was read, from what the code learnt of its answer
+pub tag-was : (m : Read Tag) {r : Tagged} {t : Tag} {c : Cursor} → r ≡ taggedOf m → r ≡ tagged.Case t c → m ≡ ok t (c .at)
+unfolding taggedOf
+tag-was (ok a n) {r} {t} {c} e q =
+    let s : tagged.Case a (record { at = n }) ≡ tagged.Case t c = cc in
+    let u : record { at = n } ≡ c = cc in
+    let x : a ≡ t = cc in
+    λ i. ok (x i) (u i .at)
+tag-was (refused f p) e q = no (cc)
+
+pub tag-out : (m : Read Tag) {r : Tagged} {f : Fault} {p : ℕ} → r ≡ taggedOf m → r ≡ tagged.Refused f p → m ≡ refused f p
+unfolding taggedOf
+tag-out (ok a n) e q = no (cc)
+tag-out (refused f p) e q = cc
+
+pub after-to : (m : Read (Unit {0})) {r : Step} {c : Cursor} → r ≡ stands m → r ≡ step.To c → c .at ≡ placeAfter m
+unfolding stands placeAfter
+after-to (ok a n) {r} {c} e q = let u : c ≡ record { at = n } = cc in ap (λ (z : Cursor). z .at) u
+after-to (refused f p) e q = no (cc)
+
+pub after-out : (m : Read (Unit {0})) {r : Step} {f : Fault} {p : ℕ} → r ≡ stands m → r ≡ step.Refused f p → p ≡ placeAfter m
+unfolding stands placeAfter
+after-out (ok a n) e q = no (cc)
+after-out (refused f p) e q = cc
+
+-- a table, from its last pair on
+module _ (s : List ℕ) (n : Name) (table : List ℕ) (i : ℕ) (r : findFirst s n table i ≡ findIn s n table) where
+  pub find-none : i ≤ 0 → Nothing ≡ found (findIn s n table)
+  unfolding findFirst found
+  find-none h = let z : i ≡ 0 = omega arith in ap found (sym (ap (findFirst s n table) z) ∙ r)
+
+  module _ (h : 0 < i) {b : Bool} {key : Name} (e : b ≡ eqName key n) (t : key ≡ textAt s (getD table (2 * (i - 1)) 0)) where
+    last-pair : findIn s n table ≡ pick b (some (getD table (2 * (i - 1) + 1) 0)) (findFirst s n table (i - 1))
+    unfolding findFirst
+    last-pair =
+        let k : i ≡ suc (i - 1) = omega arith in
+        sym r ∙ ap (findFirst s n table) k ∙ rw (sym t, sym e)
+
+    pub find-hit : b ≡ true → At (getD table (2 * (i - 1) + 1) 0) ≡ found (findIn s n table)
+    unfolding found pick
+    find-hit q = rw (last-pair, q)
+
+    pub find-miss : b ≡ false → findFirst s n table (i - 1) ≡ findIn s n table
+    unfolding pick
+    find-miss q = rw (last-pair, q)
+
+pub find-all : (s : List ℕ) (n : Name) (table : List ℕ) → findFirst s n table (length table / 2) ≡ findIn s n table
+unfolding findIn
+find-all s n table = refl
+
+-- a list of names, from place k on
+module _ (s : List ℕ) (at : ℕ) (n : Name) where
+  module _ {a : Answer} (e : a ≡ answer (readCount maxList s at)) where
+    pub names-open : {c : ℕ} {first : Cursor} → a ≡ Got c first → memberFrom c s (first .at) n ≡ memberAt s at n
+    unfolding memberAt memberOf
+    names-open q = rw (num _ e q)
+
+    pub names-refused : {f : Fault} {p : ℕ} → a ≡ Refused f p → false ≡ memberAt s at n
+    unfolding memberAt memberOf
+    names-refused q = rw (out _ e q)
+
+  module _ (k left : ℕ) (r : memberFrom left s k n ≡ memberAt s at n) where
+    pub name-none : left ≤ 0 → false ≡ memberAt s at n
+    unfolding memberFrom
+    name-none h = let z : left ≡ 0 = omega arith in sym (ap (λ (l : ℕ). memberFrom l s k n) z) ∙ r
+
+    module _ (h : 0 < left) {b : Bool} {key : Name} (e : b ≡ eqName key n) (t : key ≡ textAt s k) where
+      first-name : memberAt s at n ≡ pick b true (memberFrom (left - 1) s (afterItem s k) n)
+      unfolding memberFrom
+      first-name =
+          let z : left ≡ suc (left - 1) = omega arith in
+          sym r ∙ ap (λ (l : ℕ). memberFrom l s k n) z ∙ rw (sym t, sym e)
+
+      pub name-hit : b ≡ true → true ≡ memberAt s at n
+      unfolding pick
+      name-hit q = rw (first-name, q)
+
+      pub name-miss : {m : ℕ} → b ≡ false → m ≡ afterItem s k → memberFrom (left - 1) s m n ≡ memberAt s at n
+      unfolding pick
+      name-miss q g = rw (first-name, q, g)
+
+-- a declared type
+module _ (s : List ℕ) (at : ℕ) where
+  module _ {a : Answer} (e : a ≡ answer (readNumber maxU32 s at)) where
+    pub width-small : {w : ℕ} {c : Cursor} → a ≡ Got w c → w ≤ maxU32
+    width-small q = number-kind s at maxU32 _ _ (num _ e q) .1
+
+    pub width-is : {w : ℕ} {c : Cursor} → a ≡ Got w c → tyOf s (ty.Bit w) ≡ widthType (readNumber maxU32 s at)
+    unfolding tyOf widthType
+    width-is q = rw (num _ e q)
+
+    pub width-none : {f : Fault} {p : ℕ} → a ≡ Refused f p → tyOf s ty.Bool ≡ widthType (readNumber maxU32 s at)
+    unfolding tyOf widthType
+    width-none q = rw (out _ e q)
+
+  module _ {a : Tagged} (e : a ≡ taggedOf (readTag s at)) where
+    pub type-none : {f : Fault} {p : ℕ} → a ≡ tagged.Refused f p → tyOf s ty.Bool ≡ exprTypeAt s at
+    unfolding tyOf exprTypeAt caseType
+    type-none q = rw (tag-out _ e q)
+
+    module _ {t : Tag} {c : Cursor} (q : a ≡ tagged.Case t c) where
+      pub type-width : (r : Ty) → t .case ≡ 1 → tyOf s r ≡ widthType (readNumber maxU32 s (c .at)) → tyOf s r ≡ exprTypeAt s at
+      unfolding exprTypeAt caseType pick
+      type-width r k g = rw (tag-was _ e q, k) g
+
+      pub type-enum : t .case ≡ 2 → tyOf s (ty.Enum (c .at)) ≡ exprTypeAt s at
+      unfolding tyOf exprTypeAt caseType pick
+      type-enum k = rw (tag-was _ e q, k)
+
+      pub type-bool : t .case ≡ 0 → tyOf s ty.Bool ≡ exprTypeAt s at
+      unfolding tyOf exprTypeAt caseType pick
+      type-bool k = rw (tag-was _ e q, k)
+
+      pub type-beyond : (t .case ≡ 1 → ⊥) → (t .case ≡ 2 → ⊥) → tyOf s ty.Bool ≡ exprTypeAt s at
+      unfolding tyOf exprTypeAt caseType pick
+      type-beyond h k = rw (tag-was _ e q, ne-eqb (t .case) 1 h, ne-eqb (t .case) 2 k)
+
+pub pairs-length : (c : ℕ) (s : List ℕ) (k : ℕ) → length (pairsFrom c s k) ≡ 2 * c
+unfolding pairsFrom
+pairs-length zero s k = refl
+pairs-length (suc c) s k = let q = pairs-length c s (afterItem s k) in omega arith
+
+-- the place after a record's head
+pub head-to : (m : Read ℕ) {r : Answer} {v : ℕ} {c : Cursor} → r ≡ answer m → r ≡ Got v c → c .at ≡ placeAfter m
+unfolding placeAfter
+head-to m e q = rw (num m e q)
+
+pub head-out : (m : Read ℕ) {r : Answer} {f : Fault} {p : ℕ} → r ≡ answer m → r ≡ Refused f p → p ≡ placeAfter m
+unfolding placeAfter
+head-out m e q = rw (out m e q)
+
+-- a table that is filled: what is still to come, put from place j on, makes the whole
+module _ (s : List ℕ) (at : ℕ) (table : List ℕ) where
+  pub record Filling (left k j : ℕ) (now : List ℕ) : Type 0 where
+    pub size : length now ≡ length table
+    pub few : j + 2 * left ≤ 2 * maxList
+    pub place : j + 2 * left ≡ length (pairsAt s at)
+    pub rest : sets now j (pairsFrom left s k) ≡ sets table 0 (pairsAt s at)
+
+  module _ {a : Answer} (e : a ≡ answer (readCount maxList s at)) where
+    pub fill-refused : {f : Fault} {p : ℕ} → a ≡ Refused f p → Filled table (pairsAt s at) 0 table
+    unfolding pairsAt pairsOf
+    fill-refused q = rw (out _ e q) (record { many = refl; words = refl })
+
+    pub fill-start : {c : ℕ} {first : Cursor} → a ≡ Got c first → Filling c (first .at) 0 table
+    unfolding pairsAt pairsOf
+    fill-start {c} {first} q =
+        let r = num _ e q in
+        let l = pairs-length c s (first .at) in
+        let m = count-kind s at maxList c (first .at) r in
+        let u : pairsAt s at ≡ pairsFrom c s (first .at) = rw r in
+        let o = m .1 in
+        record { size = refl; few = omega arith; place = let v = sym l ∙ ap length (sym u) in omega arith; rest = ap (sets table 0) (sym u) }
+
+  module _ {left k j : ℕ} {now : List ℕ} (g : Filling left k j now) where
+    pub fill-done : left ≤ 0 → Filled table (pairsAt s at) j now
+    unfolding pairsFrom
+    fill-done h =
+        let z : left ≡ 0 = omega arith in
+        let p = g .place in
+        record { many = omega arith; words = rw z at (g .rest) }
+
+    pub fill-more : {name under k' : ℕ} {now' now″ : List ℕ} → 0 < left → name ≡ afterHead s k → now' ≡ set now j name → under ≡ afterItem s name → now″ ≡ set now' (j + 1) under → k' ≡ afterItem s k → Filling (left - 1) k' (j + 2) now″
+    unfolding pairsFrom
+    fill-more {name} {under} {k'} {now'} {now″} h a b c d i =
+        let z : left ≡ suc (left - 1) = omega arith in
+        let p = g .place in
+        let m = g .few in
+        let q : j + 2 ≡ suc (suc j) = omega arith in
+        let w = ap (λ (l : ℕ). sets now j (pairsFrom l s k)) (sym z) ∙ g .rest in
+        record {
+          size = rw (d, b) (length-set (set now j name) (j + 1) under ∙ length-set now j name ∙ g .size);
+          few = omega arith;
+          place = omega arith;
+          rest = rw (d, b, i, c, a, add-one j, q) w;
+        }

@@ -1,0 +1,9 @@
+-- Past the end a store changes nothing.
+use mathlib.Core.Path.{sym}
+use lib.Seq.{set-out}
+use borrow.Author.Needs.{needs}
+use Rattle.typing.proofs.fill.store.Statement.{statement}
+use Rattle.typing.proofs.fill.store.Tie as tie
+
+pub store-spec : {M : Type 1} → statement M
+store-spec = tie.close (tie.spec (λ c. search needs) (λ c. search needs) (λ c. search needs) (λ c. search needs) (λ c. sym (set-out _ _ _ (c .if1 .left))))

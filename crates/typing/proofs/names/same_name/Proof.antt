@@ -1,0 +1,10 @@
+-- By the bytes that are handed out.
+use mathlib.Core.Path.{_≡_, ap, _∙_}
+use borrow.Author.Needs.{needs}
+use Rattle.typing.specs.Names.{eqName}
+use Rattle.typing.proofs.NameLaws.{by-text, by-texts}
+use Rattle.typing.proofs.names.same_name.Statement.{statement}
+use Rattle.typing.proofs.names.same_name.Tie as tie
+
+pub same-name-spec : {M : Type 1} → statement M
+same-name-spec = tie.close (tie.spec (λ c κs. search needs) (λ c κs. search needs) (λ c κs. search needs) (λ c. search by-texts))

@@ -1,0 +1,54 @@
+// Filling a table from a list of records: each one's name and what follows the name.
+use crate::table::after;
+use reading::Answer;
+use reading::Cursor;
+ghost use mathlib.Core.Path.{_≡_};
+ghost use mathlib.Core.List.{[], _∷_};
+ghost use lib.ListN.{set};
+ghost use lib.Seq.{sets};
+ghost use Rattle.typing.specs.Table.{afterHead, pairsAt, Filled};
+
+// Puts a place into the table, where it has such a word.
+fn store(table: &mut [usize], j: usize, place: usize)
+    ensures { λ _. ⌜ now (table .exit) ≡ set (now (table .entry)) j place ⌝ }
+{
+    if j < table.len() {
+        table[j] = place;
+    }
+}
+
+// The place after the head of the record at a place.
+pub fn after_head(doc: &[u8], at: usize) -> usize
+    ensures { λ r. ⌜ r ≡ afterHead (now (doc .entry)) at ⌝ }
+{
+    let c = Cursor { at };
+    let r = c.kind(doc, 4);
+    match r {
+        Answer::Got(_, next) => next.at,
+        Answer::Refused(_, place) => place,
+    }
+}
+
+// Fills the table from the list of records at a place; how many words it takes.
+pub fn fill_table(doc: &[u8], at: usize, table: &mut [usize]) -> usize
+    ensures { λ r. ⌜ Filled (now (table .entry)) (pairsAt (now (doc .entry)) at) r (now (table .exit)) ⌝ }
+{
+    let c = Cursor { at };
+    let r = c.count(doc, 255);
+    let Answer::Got(count, first) = r else {
+        return 0;
+    };
+    let mut k = first.at;
+    let mut j: usize = 0;
+    let mut left = count;
+    while 0 < left {
+        let name = after_head(doc, k);
+        store(table, j, name);
+        let under = after(doc, name);
+        store(table, j + 1, under);
+        k = after(doc, k);
+        j += 2;
+        left -= 1;
+    }
+    j
+}

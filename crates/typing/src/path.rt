@@ -1,0 +1,109 @@
+// What a path means: its type, or the cause.
+use crate::cause::Cause;
+use crate::cause::Typed;
+use crate::names::is_word;
+use crate::table::Found;
+use crate::table::after;
+use crate::table::find;
+use crate::table::has_name;
+use crate::table::ty_at;
+use crate::ty::Ty;
+use reading::Answer;
+use reading::Cursor;
+use reading::text_at;
+ghost use mathlib.Core.Path.{_≡_};
+ghost use mathlib.Core.List.{[]};
+ghost use Rattle.reading.specs.Skip.{textAt};
+ghost use Rattle.typing.specs.Env.{stateVariants};
+ghost use Rattle.typing.specs.Typing.{resolveState, resolveName, resolveVariant};
+ghost use Rattle.typing.specs.Means.{typedOf, outcome};
+ghost use Rattle.typing.specs.Typed.{Resolves};
+ghost use Rattle.typing.specs.Table.{afterItem, envAt};
+
+// Whether a name is a variant of the last enum called State.
+pub fn state_variant<'a>(doc: &'a [u8], enums: &'a [usize], name: &'a [u8]) -> bool
+    ensures { λ r. ⌜ r ≡ stateVariants (envAt (now (doc .entry)) [] (now (enums .entry))) (now (name .entry)) ⌝ }
+{
+    let f = find(doc, enums, b"State");
+    match f {
+        Found::At(list) => has_name(doc, list, name),
+        Found::Nothing => false,
+    }
+}
+
+// A name that is no binding and no variable.
+pub fn resolve_state<'a>(doc: &'a [u8], at: usize, next: usize, enums: &'a [usize]) -> Typed
+    ensures { λ r. ⌜ typedOf (now (doc .entry)) r ≡ outcome next (resolveState (envAt (now (doc .entry)) [] (now (enums .entry))) (textAt (now (doc .entry)) at)) ⌝ }
+{
+    if state_variant(doc, enums, text_at(doc, at)) {
+        return Typed::Is(Ty::State, next);
+    }
+    Typed::Fails(Cause::UnknownIdentifier(at))
+}
+
+// A path of one name: `state` first, then bindings and variables, then variants.
+pub fn resolve_name<'a>(
+    doc: &'a [u8],
+    at: usize,
+    next: usize,
+    names: &'a [usize],
+    enums: &'a [usize],
+) -> Typed
+    ensures { λ r. ⌜ typedOf (now (doc .entry)) r ≡ outcome next (resolveName (envAt (now (doc .entry)) (now (names .entry)) (now (enums .entry))) (textAt (now (doc .entry)) at)) ⌝ }
+{
+    if is_word(doc, at, b"state") {
+        return Typed::Is(Ty::State, next);
+    }
+    let f = find(doc, names, text_at(doc, at));
+    match f {
+        Found::At(under) => Typed::Is(ty_at(doc, under), next),
+        Found::Nothing => resolve_state(doc, at, next, enums),
+    }
+}
+
+// A longer path: enum, then variant, then length.
+pub fn resolve_variant<'a>(
+    doc: &'a [u8],
+    at: usize,
+    segments: u64,
+    next: usize,
+    enums: &'a [usize],
+) -> Typed
+    ensures { λ r. ⌜ typedOf (now (doc .entry)) r ≡ outcome next (resolveVariant (envAt (now (doc .entry)) [] (now (enums .entry))) (textAt (now (doc .entry)) at) (textAt (now (doc .entry)) (afterItem (now (doc .entry)) at)) segments) ⌝ }
+{
+    let f = find(doc, enums, text_at(doc, at));
+    let Found::At(list) = f else {
+        return Typed::Fails(Cause::UnknownEnum(at));
+    };
+    let variant = after(doc, at);
+    if has_name(doc, list, text_at(doc, variant)) {
+        if 2 < segments {
+            return Typed::Fails(Cause::PathLength(segments));
+        }
+        return Typed::Is(Ty::Enum(at), next);
+    }
+    Typed::Fails(Cause::UnknownVariant(variant, at))
+}
+
+// The type of the path at a place; `next` is the place after its expression.
+pub fn resolve_path<'a>(
+    doc: &'a [u8],
+    at: usize,
+    next: usize,
+    names: &'a [usize],
+    enums: &'a [usize],
+) -> Typed
+    ensures { λ r. ⌜ Resolves (envAt (now (doc .entry)) (now (names .entry)) (now (enums .entry))) (now (doc .entry)) at next r ⌝ }
+{
+    let c = Cursor { at };
+    let r = c.count(doc, 8);
+    let Answer::Got(segments, first) = r else {
+        return Typed::Fails(Cause::EmptyPath);
+    };
+    let k = first.at;
+    match segments {
+        0 => Typed::Fails(Cause::EmptyPath),
+        1 => resolve_name(doc, k, next, names, enums),
+        2..=u64::MAX => resolve_variant(doc, k, segments, next, enums),
+    }
+}

@@ -1,0 +1,97 @@
+// Tables of places, made once for a module: names and what is declared under each, as pairs of places.
+use crate::names::same;
+use crate::ty::Ty;
+use reading::Answer;
+use reading::Cursor;
+use reading::Step;
+use reading::Tagged;
+use reading::text_at;
+ghost use mathlib.Core.Path.{_≡_};
+ghost use Rattle.reading.specs.Item.{readNumber};
+ghost use Rattle.reading.specs.Limits.{maxU32};
+ghost use Rattle.typing.specs.Means.{tyOf};
+ghost use Rattle.typing.specs.Table.{Past, findIn, found, widthType, exprTypeAt, memberAt};
+
+// What stands under a name: its place.
+pub enum Found {
+    At(usize),
+    Nothing,
+}
+
+// The place after the item at a place.
+pub fn after(doc: &[u8], at: usize) -> usize
+    ensures { λ r. ⌜ Past (now (doc .entry)) at r ⌝ }
+{
+    let c = Cursor { at };
+    let r = c.skip(doc, 1);
+    match r {
+        Step::To(next) => next.at,
+        Step::Refused(_, place) => place,
+    }
+}
+
+// What stands under a name in a table: the last.
+pub fn find<'a>(doc: &'a [u8], table: &'a [usize], name: &'a [u8]) -> Found
+    ensures { λ r. ⌜ r ≡ found (findIn (now (doc .entry)) (now (name .entry)) (now (table .entry))) ⌝ }
+{
+    let mut i = table.len() / 2;
+    while 0 < i {
+        i -= 1;
+        let key = table[2 * i];
+        if same(text_at(doc, key), name) {
+            return Found::At(table[2 * i + 1]);
+        }
+    }
+    Found::Nothing
+}
+
+// The type of a width at a place.
+pub fn width_at(doc: &[u8], at: usize) -> Ty
+    ensures { λ r. ⌜ tyOf (now (doc .entry)) r ≡ widthType (readNumber maxU32 (now (doc .entry)) at) ⌝ }
+{
+    let c = Cursor { at };
+    let r = c.number(doc, 4294967295);
+    let Answer::Got(w, _) = r else {
+        return Ty::Bool;
+    };
+    Ty::Bit(w as u32)
+}
+
+// The declared type at a place.
+pub fn ty_at(doc: &[u8], at: usize) -> Ty
+    ensures { λ r. ⌜ tyOf (now (doc .entry)) r ≡ exprTypeAt (now (doc .entry)) at ⌝ }
+{
+    let c = Cursor { at };
+    let r = c.tag(doc);
+    let Tagged::Case(tag, next) = r else {
+        return Ty::Bool;
+    };
+    let case = tag.case;
+    match case {
+        0 => Ty::Bool,
+        1 => width_at(doc, next.at),
+        2 => Ty::Enum(next.at),
+        3..=u64::MAX => Ty::Bool,
+    }
+}
+
+// Whether the list of names at a place has the name.
+pub fn has_name<'a>(doc: &'a [u8], at: usize, name: &'a [u8]) -> bool
+    ensures { λ r. ⌜ r ≡ memberAt (now (doc .entry)) at (now (name .entry)) ⌝ }
+{
+    let c = Cursor { at };
+    let r = c.count(doc, 255);
+    let Answer::Got(count, first) = r else {
+        return false;
+    };
+    let mut k = first.at;
+    let mut left = count;
+    while 0 < left {
+        if same(text_at(doc, k), name) {
+            return true;
+        }
+        k = after(doc, k);
+        left -= 1;
+    }
+    false
+}
