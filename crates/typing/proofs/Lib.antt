@@ -12,3 +12,4 @@ pub mod Depends
 pub mod EnvLaws
 pub mod JudgeLaws
 pub mod AcceptLaws
+pub mod FirstLaws
