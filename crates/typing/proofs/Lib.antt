@@ -13,3 +13,4 @@ pub mod EnvLaws
 pub mod JudgeLaws
 pub mod AcceptLaws
 pub mod FirstLaws
+pub mod ArgLaws

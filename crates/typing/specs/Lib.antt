@@ -19,3 +19,4 @@ pub mod Shape
 pub mod Judges
 pub mod Accepts
 pub mod First
+pub mod Arguments
