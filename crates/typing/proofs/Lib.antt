@@ -9,6 +9,7 @@ pub mod TypeLaws
 pub mod ShapeLaws
 pub mod Settled
 pub mod Depends
+pub mod Agreement
 pub mod EnvLaws
 pub mod JudgeLaws
 pub mod AcceptLaws
