@@ -2,10 +2,11 @@
 use Prim.Native.Nat.{ℕ, zero, suc, _+_, _*_, _/_}
 use mathlib.Core.Path.{_≡_, refl, sym, ap, subst, _∙_}
 use mathlib.Core.Bool.{Bool, true, false}
-use mathlib.Core.List.{List, [], _∷_}
+use mathlib.Core.List.{List, [], _∷_, _++_}
 use mathlib.Core.Option.{Option, none, some}
 use native.Mathlib.Omega.{arith}
-use lib.ListN.{length, getD}
+use native.Mathlib.Nat.{zero-add, suc-add}
+use lib.ListN.{length, getD, length-append}
 use lib.Dec.{eqb}
 use Rattle.reading.specs.Read.{Read, Reader, ok, pick}
 use Rattle.reading.specs.Limits.{maxU32, maxList}
@@ -29,7 +30,7 @@ use Rattle.reading.proofs.Walks.{passed, name-text}
 use Rattle.typing.specs.Types.{ExprType, bool, enum, typeToExprType}
 use Rattle.typing.specs.Causes.{firstOf}
 use Rattle.typing.specs.Names.{eqName, member, called, lastCalled}
-use Rattle.typing.specs.Env.{Env, named, varType, given, enumHas, forModule}
+use Rattle.typing.specs.Env.{Env, Binding, named, bindingType, varType, given, enumHas, forModule, withBindings}
 use Rattle.typing.specs.Table.{placeAfter, afterItem, afterHead, pairsFrom, pairsOf, pairsAt, findFirst, findIn, widthType, caseType, exprTypeAt, memberFrom, memberOf, memberAt, typeFound, variantFound, envAt}
 use Rattle.typing.proofs.TableLaws.{pairs-length}
 use Rattle.typing.proofs.Depends.{Agree}
@@ -240,3 +241,75 @@ module _ (s : List ℕ) (B : Bytes s) where
     enums = λ w. given-at [] (findIn s w (pairsAt s enums)) ∙ ap given (enums-hold [] enums w (m .enums) j f) ∙ sym (given-of [] (lastCalled enumName w (m .enums)));
     variants = λ w u. found-or u (findIn s w (pairsAt s enums)) ∙ ap orFalse (enums-hold u enums w (m .enums) j f) ∙ sym (has-or u (lastCalled enumName w (m .enums)));
   }
+
+first-first : {A : Type 0} (a b c : Option A) → firstOf (firstOf a b) c ≡ firstOf a (firstOf b c)
+unfolding firstOf
+first-first none b c = refl
+first-first (some a) b c = refl
+
+first-none : {A : Type 0} (a : Option A) → firstOf a none ≡ a
+unfolding firstOf
+first-none none = refl
+first-none (some a) = refl
+
+-- a table after another: its names come first
+find-after : (s : List ℕ) (w : Name) (k m : ℕ) (A B : List ℕ) → length A ≡ 2 * k → findFirst s w (A ++ B) (k + m) ≡ firstOf (findFirst s w B m) (findFirst s w A k)
+unfolding findFirst
+find-after s w zero m [] B q = rw zero-add (sym (first-none (findFirst s w B m)))
+find-after s w zero m (x ∷ A) B q = absurd (omega arith)
+find-after s w (suc k) m [] B q = absurd (omega arith)
+find-after s w (suc k) m (x ∷ []) B q = absurd (omega arith)
+find-after s w (suc k) m (x ∷ (y ∷ A)) B q =
+    let r : length A ≡ 2 * k = omega arith in
+    let t = pick (eqName (textAt s x) w) (some y) none in
+    rw (suc-add k m)
+    (find-cons s w x y (A ++ B) (k + m)
+    ∙ ap (λ (o : Option ℕ). firstOf o t) (find-after s w k m A B r)
+    ∙ first-first (findFirst s w B m) (findFirst s w A k) t
+    ∙ ap (firstOf (findFirst s w B m)) (sym (find-cons s w x y A k)))
+
+-- a table of bindings: the place of each name, and of the type that is declared for its field
+pub data Bound (s : List ℕ) : List ℕ → List Binding → Type 0 where
+  none-bound : Bound s [] []
+  more-bound : {a b : ℕ} {T : List ℕ} {x : Binding} {bs : List Binding} → textAt s a ≡ x .name → exprTypeAt s b ≡ x .type → Bound s T bs → Bound s (a ∷ (b ∷ T)) (x ∷ bs)
+
+abbrev bindingName : Binding → Name
+bindingName b = b .name
+
+bound-length : {s T : List ℕ} {bs : List Binding} → Bound s T bs → length T ≡ 2 * length bs
+bound-length none-bound = refl
+bound-length (more-bound p q b) = let l = bound-length b in omega arith
+
+binding-first : (a b : Option Binding) → bindingType (firstOf a b) ≡ firstOf (bindingType a) (bindingType b)
+unfolding firstOf bindingType
+binding-first none b = refl
+binding-first (some a) b = refl
+
+bound-one : (s : List ℕ) (t : Bool) (b : ℕ) (x : Binding) → exprTypeAt s b ≡ x .type → typeFound s (pick t (some b) none) ≡ bindingType (pick t (some x) none)
+unfolding pick typeFound bindingType
+bound-one s true b x e = ap some e
+bound-one s false b x e = refl
+
+bound-find : {s T : List ℕ} {bs : List Binding} (w : Name) → Bound s T bs → typeFound s (findFirst s w T (length bs)) ≡ bindingType (lastCalled bindingName w bs)
+unfolding findFirst lastCalled called typeFound bindingType
+bound-find w none-bound = refl
+bound-find {s} w (more-bound {a} {b} {T} {x} {bs} p q r) =
+    rw (find-cons s w a b T (length bs), type-first s, binding-first, bound-find w r, p)
+    (ap (firstOf (bindingType (lastCalled bindingName w bs))) (bound-one s (eqName (x .name) w) b x q))
+
+-- bindings put after a module's variables mean what the pattern binds
+pub bindings-agree : (s names enums T : List ℕ) (k : ℕ) (bs : List Binding) (env : Env) → length names ≡ 2 * k → Bound s T bs → Agree (envAt s names enums) env → (env .bindings ≡ (λ n. none)) → Agree (envAt s (names ++ T) enums) (withBindings bs env)
+unfolding envAt withBindings findIn firstOf
+bindings-agree s names enums T k bs env l b g z = record {
+  names = λ w.
+      let m = bound-length b in
+      let h : length (names ++ T) / 2 ≡ k + length bs = omega (arith, length-append names T) in
+      let i : length names / 2 ≡ k = omega arith in
+      ap (λ (n : ℕ). typeFound s (findFirst s w (names ++ T) n)) h
+      ∙ ap (typeFound s) (find-after s w k (length bs) names T l)
+      ∙ type-first s (findFirst s w T (length bs)) (findFirst s w names k)
+      ∙ ap (λ (o : Option ExprType). firstOf o (typeFound s (findFirst s w names k))) (bound-find w b)
+      ∙ ap (firstOf (bindingType (lastCalled bindingName w bs))) (sym (ap (λ (n : ℕ). typeFound s (findFirst s w names n)) i) ∙ g .names w ∙ ap (λ (f : Name → Option ExprType). firstOf (f w) (env .vars w)) z);
+  enums = g .enums;
+  variants = g .variants;
+}

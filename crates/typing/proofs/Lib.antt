@@ -9,6 +9,9 @@ pub mod TypeLaws
 pub mod ShapeLaws
 pub mod Settled
 pub mod Depends
+pub mod Agreement
 pub mod EnvLaws
 pub mod JudgeLaws
 pub mod AcceptLaws
+pub mod FirstLaws
+pub mod ArgLaws

@@ -36,6 +36,7 @@ use Rattle.typing.specs.declared.cause.Cause.{Cause}
 use Rattle.typing.specs.declared.cause.Typed.{Typed}
 use Rattle.typing.specs.declared.cause.Typed.the-variants.{Is, Fails}
 use Rattle.typing.proofs.TableLaws.{tag-was, tag-out}
+use Rattle.typing.proofs.Depends.{Agree, type-agree}
 
 -- an expression ends where the item does
 pub expr-ends : (d : ℕ) (s : List ℕ) (at : ℕ) {r : ℕ} → Past s at r → Ends (readExpr d s at) r
@@ -219,3 +220,7 @@ module _ (env : Env) (d : ℕ) (s : List ℕ) (at : ℕ) {a : Answer} (e : a ≡
             let f' = is-typed env d s right h' y n (ap (readExpr d s) (f .1) ∙ w) z' in
             rw (f .0, f' .0) (rw (p, f' .1) at g);
       }
+
+-- the same promise by another environment in which names mean the same
+pub types-agree : {a b : Env} {d : ℕ} {s : List ℕ} {at : ℕ} {r : Typed} → Agree a b → Types a d s at r → Types b d s at r
+types-agree g h = record { of = λ e n q. h .of e n q ∙ ap (outcome n) (type-agree g e) }

@@ -88,10 +88,7 @@ unfoldable pub unless : Option Cause → Answer → Answer
 unless none a = a
 unless (some c) a = fails c
 
-unfoldable pub causeOf : Answer → Option Cause
-causeOf (is t) = none
-causeOf (fails c) = some c
-
+-- the first of two that is given
 unfoldable pub firstOf : {A : Type 0} → Option A → Option A → Option A
 firstOf none b = b
 firstOf (some a) b = some a

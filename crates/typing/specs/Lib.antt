@@ -18,3 +18,5 @@ pub mod Typed
 pub mod Shape
 pub mod Judges
 pub mod Accepts
+pub mod First
+pub mod Arguments

@@ -37,6 +37,10 @@ pub record Past (s : List ℕ) (at r : ℕ) : Type 0 where
 abbrev pub afterHead : List ℕ → ℕ → ℕ
 afterHead s at = placeAfter (readKind 4 s at)
 
+-- the place after the head of the data enum at a place
+abbrev pub afterTag : List ℕ → ℕ → ℕ
+afterTag s at = placeAfter (readTag s at)
+
 -- the table of as many records from a place on: each one's name and what follows the name
 unfoldable pub pairsFrom : ℕ → List ℕ → ℕ → List ℕ
 pairsFrom zero s at = []

@@ -6,10 +6,6 @@ use Rattle.reading.specs.Read.{Read, ok}
 pub record Tells {A : Type 0} (m : Read A) (P : A → ℕ → Type 0) : Type 0 where
   pub of : (x : A) (n : ℕ) → m ≡ ok x n → P x n
 
--- of the content alone
-abbrev pub Shows : {A : Type 0} → Read A → (A → Type 0) → Type 0
-Shows m P = Tells m (λ x n. P x)
-
 -- k is where it ends
 abbrev pub Ends : {A : Type 0} → Read A → ℕ → Type 0
 Ends m k = Tells m (λ x n. k ≡ n)

@@ -2,11 +2,12 @@
 use crate::table::after;
 use reading::Answer;
 use reading::Cursor;
+use reading::Tagged;
 ghost use mathlib.Core.Path.{_≡_};
 ghost use mathlib.Core.List.{[], _∷_};
 ghost use lib.ListN.{set};
 ghost use lib.Seq.{sets};
-ghost use Rattle.typing.specs.Table.{afterHead, pairsAt, Filled};
+ghost use Rattle.typing.specs.Table.{afterHead, afterTag, pairsAt, Filled};
 
 // Puts a place into the table, where it has such a word.
 fn store(table: &mut [usize], j: usize, place: usize)
@@ -51,4 +52,16 @@ pub fn fill_table(doc: &[u8], at: usize, table: &mut [usize]) -> usize
         left -= 1;
     }
     j
+}
+
+// The place after the head of the data enum at a place.
+pub fn after_tag(doc: &[u8], at: usize) -> usize
+    ensures { λ r. ⌜ r ≡ afterTag (now (doc .entry)) at ⌝ }
+{
+    let c = Cursor { at };
+    let r = c.tag(doc);
+    match r {
+        Tagged::Case(_, next) => next.at,
+        Tagged::Refused(_, place) => place,
+    }
 }

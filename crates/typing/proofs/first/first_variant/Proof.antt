@@ -1,0 +1,35 @@
+-- What is left of the list decides.
+use native.Mathlib.Omega.{arith}
+use borrow.Author.Needs.{needs}
+use Rattle.reading.specs.Decl.{readConstructorVariant}
+use Rattle.typing.specs.Patterns.{declaredName}
+use Rattle.typing.proofs.FirstLaws.{Scanning, first-none, first-start, first-done, variant-hit, variant-miss}
+use Rattle.typing.proofs.first.first_variant.Statement.{statement}
+use Rattle.typing.proofs.first.first_variant.Tie as tie
+
+abbrev Inv-loop : tie.InvT-loop
+Inv-loop doc at name count k₀ left₀ k left = Scanning readConstructorVariant declaredName doc at name left k
+
+abbrev μ-loop : tie.MeasureT-loop
+μ-loop doc at name count k₀ left₀ k left = left
+
+pub first-variant-spec : {M : Type 1} → statement M
+first-variant-spec =
+    tie.close
+    (tie.spec
+    Inv-loop
+    μ-loop
+    (λ c κs. search needs)
+    (λ c. search needs)
+    (λ c. search needs)
+    (λ c. search first-none)
+    (λ c. search first-start)
+    (λ c κs. search needs)
+    (λ c κs. search needs)
+    (λ c κs. search needs)
+    (λ c. search variant-hit)
+    (λ c κs. search needs)
+    (λ c. omega arith)
+    (λ c. omega arith)
+    (λ c. search variant-miss)
+    (λ c. search first-done))

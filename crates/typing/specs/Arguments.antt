@@ -1,0 +1,18 @@
+-- What the judging of an argument promises: for whatever reads there, its answer is the definition's.
+use Prim.Native.Nat.{ℕ}
+use mathlib.Core.Path.{_≡_}
+use mathlib.Core.List.{List}
+use Rattle.reading.specs.Read.{ok}
+use Rattle.reading.specs.Limits.{maxDepth}
+use Rattle.reading.specs.Expr.{Expr, readExpr}
+use Rattle.reading.specs.Decl.{Ty, readTy}
+use Rattle.typing.specs.Types.{typeToExprType}
+use Rattle.typing.specs.Env.{Env}
+use Rattle.typing.specs.Typing.{typeExpr}
+use Rattle.typing.specs.Outputs.{argCause}
+use Rattle.typing.specs.Means.{unfitOf}
+use Rattle.typing.specs.declared.rules.Fit.{Fit}
+
+-- the argument at a place, of a field whose type stands at another
+pub record AcceptsArg (env : Env) (s : List ℕ) (at ty : ℕ) (r : Fit) : Type 0 where
+  pub of : (e : Expr) (n : ℕ) (t : Ty) (m : ℕ) → readExpr maxDepth s at ≡ ok e n → readTy s ty ≡ ok t m → unfitOf s r ≡ argCause (typeExpr env e) (typeToExprType t)

@@ -1,0 +1,32 @@
+-- The first of a name in a list of the document, and its place.
+use Prim.Native.Nat.{ℕ}
+use mathlib.Core.Path.{_≡_}
+use mathlib.Core.List.{List}
+use mathlib.Core.Option.{Option, none, some}
+use Rattle.reading.specs.Read.{Reader, ok}
+use Rattle.reading.specs.Limits.{maxList}
+use Rattle.reading.specs.Text.{Name}
+use Rattle.reading.specs.Combine.{listOf}
+use Rattle.reading.specs.Decl.{ConstructorVariant, ConstructorGroup, readConstructorVariant, readConstructorGroup}
+use Rattle.typing.specs.Names.{firstCalled}
+use Rattle.typing.specs.Patterns.{declaredName}
+use Rattle.typing.specs.declared.table.Found.{Found}
+use Rattle.typing.specs.declared.table.Found.the-variants.{At, Nothing}
+
+-- what was found reads at its place
+pub data FoundAt {A : Type 0} (F : Reader A) (s : List ℕ) : Found → Option A → Type 0 where
+  found-here : {k n : ℕ} {x : A} → F s k ≡ ok x n → FoundAt F s (At k) (some x)
+  found-nothing : FoundAt F s Nothing none
+
+abbrev pub groupName : ConstructorGroup → Name
+groupName g = g .name
+
+-- for whatever list reads at a place
+pub record First {A : Type 0} (F : Reader A) (name : A → Name) (s : List ℕ) (at : ℕ) (w : Name) (r : Found) : Type 0 where
+  pub of : (xs : List A) (n : ℕ) → listOf maxList F s at ≡ ok xs n → FoundAt F s r (firstCalled name w xs)
+
+abbrev pub FirstGroup : List ℕ → ℕ → Name → Found → Type 0
+FirstGroup = First readConstructorGroup groupName
+
+abbrev pub FirstVariant : List ℕ → ℕ → Name → Found → Type 0
+FirstVariant = First readConstructorVariant declaredName

@@ -1,0 +1,54 @@
+// The first group or variant of a name.
+use crate::fill::after_head;
+use crate::fill::after_tag;
+use crate::names::same;
+use crate::table::Found;
+use crate::table::after;
+use reading::Answer;
+use reading::Cursor;
+use reading::text_at;
+ghost use Rattle.typing.specs.First.{FirstGroup, FirstVariant};
+
+// In the list of groups at a place.
+pub fn first_group<'a>(doc: &'a [u8], at: usize, name: &'a [u8]) -> Found
+    ensures { λ r. ⌜ FirstGroup (now (doc .entry)) at (now (name .entry)) r ⌝ }
+{
+    let c = Cursor { at };
+    let r = c.count(doc, 255);
+    let Answer::Got(count, first) = r else {
+        return Found::Nothing;
+    };
+    let mut k = first.at;
+    let mut left = count;
+    while 0 < left {
+        let key = after_head(doc, k);
+        if same(text_at(doc, key), name) {
+            return Found::At(k);
+        }
+        k = after(doc, k);
+        left -= 1;
+    }
+    Found::Nothing
+}
+
+// In the list of variants at a place: the case number stands before the name.
+pub fn first_variant<'a>(doc: &'a [u8], at: usize, name: &'a [u8]) -> Found
+    ensures { λ r. ⌜ FirstVariant (now (doc .entry)) at (now (name .entry)) r ⌝ }
+{
+    let c = Cursor { at };
+    let r = c.count(doc, 255);
+    let Answer::Got(count, first) = r else {
+        return Found::Nothing;
+    };
+    let mut k = first.at;
+    let mut left = count;
+    while 0 < left {
+        let key = after_tag(doc, k);
+        if same(text_at(doc, key), name) {
+            return Found::At(k);
+        }
+        k = after(doc, k);
+        left -= 1;
+    }
+    Found::Nothing
+}
