@@ -12,7 +12,7 @@ ghost use lib.Dec.{eqb};
 ghost use Rattle.typing.specs.Judges.{FieldBinds, FieldsBind, VariantBinds, ChecksGroup};
 
 // Whether null stands at a place.
-pub fn null_at(doc: &[u8], at: usize) -> bool
+pub(crate) fn null_at(doc: &[u8], at: usize) -> bool
     ensures { λ r. ⌜ r ≡ eqb (getD (now (doc .entry)) at 0) 246 ⌝ }
 {
     if at < doc.len() {
@@ -22,7 +22,7 @@ pub fn null_at(doc: &[u8], at: usize) -> bool
 }
 
 // Whether the pattern's field at a place has a name.
-pub fn field_binds(doc: &[u8], at: usize) -> bool
+pub(crate) fn field_binds(doc: &[u8], at: usize) -> bool
     ensures { λ r. ⌜ FieldBinds (now (doc .entry)) at r ⌝ }
 {
     let name = after_head(doc, at);
@@ -33,7 +33,7 @@ pub fn field_binds(doc: &[u8], at: usize) -> bool
 }
 
 // Whether one of the list at a place has.
-pub fn fields_bind(doc: &[u8], at: usize) -> bool
+pub(crate) fn fields_bind(doc: &[u8], at: usize) -> bool
     ensures { λ r. ⌜ FieldsBind (now (doc .entry)) at r ⌝ }
 {
     let c = Cursor { at };
@@ -54,7 +54,7 @@ pub fn fields_bind(doc: &[u8], at: usize) -> bool
 }
 
 // Whether the variant at a place has such a field; it may be absent.
-pub fn variant_binds(doc: &[u8], at: usize) -> bool
+pub(crate) fn variant_binds(doc: &[u8], at: usize) -> bool
     ensures { λ r. ⌜ VariantBinds (now (doc .entry)) at r ⌝ }
 {
     if null_at(doc, at) {
@@ -75,7 +75,7 @@ pub fn variant_binds(doc: &[u8], at: usize) -> bool
 }
 
 // What is wrong with the pattern at a place in a formula, if anything.
-pub fn check_pattern_group(doc: &[u8], at: usize) -> Fit
+pub(crate) fn check_pattern_group(doc: &[u8], at: usize) -> Fit
     ensures { λ r. ⌜ ChecksGroup (now (doc .entry)) at r ⌝ }
 {
     let group = after_head(doc, at);

@@ -53,7 +53,7 @@ pub fn type_expr<'a>(
 }
 
 // The same of a unary expression, by its fields: the operand's cause comes first.
-pub fn type_unary<'a>(
+pub(crate) fn type_unary<'a>(
     doc: &'a [u8],
     at: usize,
     depth: u64,
@@ -75,7 +75,7 @@ pub fn type_unary<'a>(
 }
 
 // The same of a binary expression: left goes first.
-pub fn type_binary<'a>(
+pub(crate) fn type_binary<'a>(
     doc: &'a [u8],
     at: usize,
     depth: u64,

@@ -19,7 +19,7 @@ fn store(table: &mut [usize], j: usize, place: usize)
 }
 
 // The place after the head of the record at a place.
-pub fn after_head(doc: &[u8], at: usize) -> usize
+pub(crate) fn after_head(doc: &[u8], at: usize) -> usize
     ensures { λ r. ⌜ r ≡ afterHead (now (doc .entry)) at ⌝ }
 {
     let c = Cursor { at };
@@ -55,7 +55,7 @@ pub fn fill_table(doc: &[u8], at: usize, table: &mut [usize]) -> usize
 }
 
 // The place after the head of the data enum at a place.
-pub fn after_tag(doc: &[u8], at: usize) -> usize
+pub(crate) fn after_tag(doc: &[u8], at: usize) -> usize
     ensures { λ r. ⌜ r ≡ afterTag (now (doc .entry)) at ⌝ }
 {
     let c = Cursor { at };

@@ -2,7 +2,7 @@
 ghost use mathlib.Core.Path.{_≡_};
 ghost use Rattle.typing.specs.Patterns.{fits};
 
-pub fn fits(value: u64, width: u32) -> bool
+pub(crate) fn fits(value: u64, width: u32) -> bool
     ensures { λ r. ⌜ r ≡ fits value width ⌝ }
 {
     if 64 <= width {

@@ -21,7 +21,7 @@ pub enum Kind {
 }
 
 // The case of a formula, by its number in ir.rs.
-pub fn kind_of(case: u64) -> Kind
+pub(crate) fn kind_of(case: u64) -> Kind
     ensures { λ r. ⌜ r ≡ kindOf case ⌝ }
 {
     match case {

@@ -21,7 +21,7 @@ ghost use Rattle.typing.specs.Typed.{Resolves};
 ghost use Rattle.typing.specs.Table.{afterItem, envAt};
 
 // Whether a name is a variant of the last enum called State.
-pub fn state_variant<'a>(doc: &'a [u8], enums: &'a [usize], name: &'a [u8]) -> bool
+pub(crate) fn state_variant<'a>(doc: &'a [u8], enums: &'a [usize], name: &'a [u8]) -> bool
     ensures { λ r. ⌜ r ≡ stateVariants (envAt (now (doc .entry)) [] (now (enums .entry))) (now (name .entry)) ⌝ }
 {
     let f = find(doc, enums, b"State");
@@ -32,7 +32,7 @@ pub fn state_variant<'a>(doc: &'a [u8], enums: &'a [usize], name: &'a [u8]) -> b
 }
 
 // A name that is no binding and no variable.
-pub fn resolve_state<'a>(doc: &'a [u8], at: usize, next: usize, enums: &'a [usize]) -> Typed
+pub(crate) fn resolve_state<'a>(doc: &'a [u8], at: usize, next: usize, enums: &'a [usize]) -> Typed
     ensures { λ r. ⌜ typedOf (now (doc .entry)) r ≡ outcome next (resolveState (envAt (now (doc .entry)) [] (now (enums .entry))) (textAt (now (doc .entry)) at)) ⌝ }
 {
     if state_variant(doc, enums, text_at(doc, at)) {
@@ -42,7 +42,7 @@ pub fn resolve_state<'a>(doc: &'a [u8], at: usize, next: usize, enums: &'a [usiz
 }
 
 // A path of one name: `state` first, then bindings and variables, then variants.
-pub fn resolve_name<'a>(
+pub(crate) fn resolve_name<'a>(
     doc: &'a [u8],
     at: usize,
     next: usize,
@@ -62,7 +62,7 @@ pub fn resolve_name<'a>(
 }
 
 // A longer path: enum, then variant, then length.
-pub fn resolve_variant<'a>(
+pub(crate) fn resolve_variant<'a>(
     doc: &'a [u8],
     at: usize,
     segments: u64,

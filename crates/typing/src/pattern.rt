@@ -15,7 +15,7 @@ ghost use Rattle.typing.specs.Means.{tyOf, unfitOf};
 ghost use Rattle.typing.specs.Accepts.{boolOn, EnumOf, VariantOf, AcceptsInt, AcceptsPath, Accepts};
 
 // A boolean literal.
-pub fn bool_on(doc: &[u8], ty: Ty) -> Fit
+pub(crate) fn bool_on(doc: &[u8], ty: Ty) -> Fit
     ensures { λ r. ⌜ unfitOf (now (doc .entry)) r ≡ boolOn (tyOf (now (doc .entry)) ty) ⌝ }
 {
     match ty {
@@ -28,7 +28,7 @@ pub fn bool_on(doc: &[u8], ty: Ty) -> Fit
 }
 
 // An integer literal at a place.
-pub fn int_on(doc: &[u8], at: usize, ty: Ty) -> Fit
+pub(crate) fn int_on(doc: &[u8], at: usize, ty: Ty) -> Fit
     ensures { λ r. ⌜ AcceptsInt (now (doc .entry)) at (tyOf (now (doc .entry)) ty) r ⌝ }
 {
     let c = Cursor { at };
@@ -51,7 +51,7 @@ pub fn int_on(doc: &[u8], at: usize, ty: Ty) -> Fit
 }
 
 // Whether the path at a place has two names at least, and the first is the enum's at another.
-pub fn variant_of<'a>(doc: &'a [u8], at: usize, name: &'a [u8]) -> bool
+pub(crate) fn variant_of<'a>(doc: &'a [u8], at: usize, name: &'a [u8]) -> bool
     ensures { λ r. ⌜ VariantOf (now (doc .entry)) at (now (name .entry)) r ⌝ }
 {
     let c = Cursor { at };
@@ -66,7 +66,7 @@ pub fn variant_of<'a>(doc: &'a [u8], at: usize, name: &'a [u8]) -> bool
 }
 
 // The place of the name of the enum that is declared at a place.
-pub fn enum_at(doc: &[u8], at: usize) -> Found
+pub(crate) fn enum_at(doc: &[u8], at: usize) -> Found
     ensures { λ r. ⌜ EnumOf (now (doc .entry)) at r ⌝ }
 {
     let c = Cursor { at };
@@ -83,7 +83,7 @@ pub fn enum_at(doc: &[u8], at: usize) -> Found
 }
 
 // A path at a place, on the type at another.
-pub fn path_on(doc: &[u8], at: usize, ty: usize) -> Fit
+pub(crate) fn path_on(doc: &[u8], at: usize, ty: usize) -> Fit
     ensures { λ r. ⌜ AcceptsPath (now (doc .entry)) at ty r ⌝ }
 {
     let f = enum_at(doc, ty);

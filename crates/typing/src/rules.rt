@@ -20,7 +20,7 @@ pub enum Fit {
 }
 
 // The type of a negated operand; the cause where it is no bitvector.
-pub fn negated(doc: &[u8], t: Ty, cause: Cause, next: usize) -> Typed
+pub(crate) fn negated(doc: &[u8], t: Ty, cause: Cause, next: usize) -> Typed
     ensures { λ r. ⌜ typedOf (now (doc .entry)) r ≡ outcome next (negated (causeOf (now (doc .entry)) cause) (bitsOf (tyOf (now (doc .entry)) t))) ⌝ }
 {
     let b = bits_of(doc, t);
@@ -48,7 +48,7 @@ pub fn unary_type(doc: &[u8], op: u64, t: Ty, next: usize) -> Typed
 }
 
 // The rule of arithmetic and of operators on bits.
-pub fn bit_op_type(doc: &[u8], l: Ty, r: Ty, next: usize) -> Typed
+pub(crate) fn bit_op_type(doc: &[u8], l: Ty, r: Ty, next: usize) -> Typed
     ensures { λ t. ⌜ typedOf (now (doc .entry)) t ≡ outcome next (bitOpType (tyOf (now (doc .entry)) l) (tyOf (now (doc .entry)) r)) ⌝ }
 {
     let a = bits_of(doc, l);
@@ -74,7 +74,7 @@ pub fn bit_op_type(doc: &[u8], l: Ty, r: Ty, next: usize) -> Typed
 }
 
 // The type of what is shifted, at the left operand's width.
-pub fn shift_by(doc: &[u8], width: u32, r: Ty, next: usize) -> Typed
+pub(crate) fn shift_by(doc: &[u8], width: u32, r: Ty, next: usize) -> Typed
     ensures { λ t. ⌜ typedOf (now (doc .entry)) t ≡ outcome next (shiftBy width (bitsOf (tyOf (now (doc .entry)) r))) ⌝ }
 {
     let b = bits_of(doc, r);
@@ -86,7 +86,7 @@ pub fn shift_by(doc: &[u8], width: u32, r: Ty, next: usize) -> Typed
 }
 
 // The rule of the shifts.
-pub fn shift_type(doc: &[u8], l: Ty, r: Ty, next: usize) -> Typed
+pub(crate) fn shift_type(doc: &[u8], l: Ty, r: Ty, next: usize) -> Typed
     ensures { λ t. ⌜ typedOf (now (doc .entry)) t ≡ outcome next (shiftType (tyOf (now (doc .entry)) l) (tyOf (now (doc .entry)) r)) ⌝ }
 {
     let a = bits_of(doc, l);
@@ -98,14 +98,14 @@ pub fn shift_type(doc: &[u8], l: Ty, r: Ty, next: usize) -> Typed
 }
 
 // Whether the first is a literal and the second a bool.
-pub fn literal_as_bool(doc: &[u8], l: Ty, r: Ty) -> bool
+pub(crate) fn literal_as_bool(doc: &[u8], l: Ty, r: Ty) -> bool
     ensures { λ x. ⌜ x ≡ literalAsBool (tyOf (now (doc .entry)) l) (tyOf (now (doc .entry)) r) ⌝ }
 {
     literal_with_bool(bits_of(doc, l), is_bool(doc, r))
 }
 
 // Why two types can't be compared.
-pub fn mismatch(doc: &[u8], l: Ty, r: Ty) -> Cause
+pub(crate) fn mismatch(doc: &[u8], l: Ty, r: Ty) -> Cause
     ensures { λ c. ⌜ causeOf (now (doc .entry)) c ≡ mismatch (tyOf (now (doc .entry)) l) (tyOf (now (doc .entry)) r) ⌝ }
 {
     if literal_as_bool(doc, l, r) {
@@ -133,7 +133,7 @@ pub fn compatible_with(doc: &[u8], l: Ty, r: Ty) -> Fit
 }
 
 // The rule of the comparisons.
-pub fn compare_type(doc: &[u8], l: Ty, r: Ty, next: usize) -> Typed
+pub(crate) fn compare_type(doc: &[u8], l: Ty, r: Ty, next: usize) -> Typed
     ensures { λ t. ⌜ typedOf (now (doc .entry)) t ≡ outcome next (compareType (tyOf (now (doc .entry)) l) (tyOf (now (doc .entry)) r)) ⌝ }
 {
     let f = compatible_with(doc, l, r);
@@ -144,7 +144,7 @@ pub fn compare_type(doc: &[u8], l: Ty, r: Ty, next: usize) -> Typed
 }
 
 // The rule of && and ||.
-pub fn logic_type(doc: &[u8], l: Ty, r: Ty, next: usize) -> Typed
+pub(crate) fn logic_type(doc: &[u8], l: Ty, r: Ty, next: usize) -> Typed
     ensures { λ t. ⌜ typedOf (now (doc .entry)) t ≡ outcome next (logicType (tyOf (now (doc .entry)) l) (tyOf (now (doc .entry)) r)) ⌝ }
 {
     if is_bool(doc, l) {
@@ -157,7 +157,7 @@ pub fn logic_type(doc: &[u8], l: Ty, r: Ty, next: usize) -> Typed
 }
 
 // The rule of & and |.
-pub fn and_or_type(doc: &[u8], l: Ty, r: Ty, next: usize) -> Typed
+pub(crate) fn and_or_type(doc: &[u8], l: Ty, r: Ty, next: usize) -> Typed
     ensures { λ t. ⌜ typedOf (now (doc .entry)) t ≡ outcome next (andOrType (tyOf (now (doc .entry)) l) (tyOf (now (doc .entry)) r)) ⌝ }
 {
     if is_bool(doc, l) {

@@ -19,7 +19,7 @@ pub enum Found {
 }
 
 // The place after the item at a place.
-pub fn after(doc: &[u8], at: usize) -> usize
+pub(crate) fn after(doc: &[u8], at: usize) -> usize
     ensures { λ r. ⌜ Past (now (doc .entry)) at r ⌝ }
 {
     let c = Cursor { at };
@@ -46,7 +46,7 @@ pub fn find<'a>(doc: &'a [u8], table: &'a [usize], name: &'a [u8]) -> Found
 }
 
 // The type of a width at a place.
-pub fn width_at(doc: &[u8], at: usize) -> Ty
+pub(crate) fn width_at(doc: &[u8], at: usize) -> Ty
     ensures { λ r. ⌜ tyOf (now (doc .entry)) r ≡ widthType (readNumber maxU32 (now (doc .entry)) at) ⌝ }
 {
     let c = Cursor { at };
@@ -58,7 +58,7 @@ pub fn width_at(doc: &[u8], at: usize) -> Ty
 }
 
 // The declared type at a place.
-pub fn ty_at(doc: &[u8], at: usize) -> Ty
+pub(crate) fn ty_at(doc: &[u8], at: usize) -> Ty
     ensures { λ r. ⌜ tyOf (now (doc .entry)) r ≡ exprTypeAt (now (doc .entry)) at ⌝ }
 {
     let c = Cursor { at };

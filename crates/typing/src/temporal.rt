@@ -48,7 +48,7 @@ pub fn type_formula<'a>(
 }
 
 // Its expression has to be a bool.
-pub fn type_bool<'a>(
+pub(crate) fn type_bool<'a>(
     doc: &'a [u8],
     at: usize,
     depth: u64,

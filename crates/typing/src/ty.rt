@@ -22,7 +22,7 @@ pub enum Bits {
     Other,
 }
 
-pub fn bits_of(doc: &[u8], t: Ty) -> Bits
+pub(crate) fn bits_of(doc: &[u8], t: Ty) -> Bits
     ensures { λ r. ⌜ r ≡ bitsOf (tyOf (now (doc .entry)) t) ⌝ }
 {
     match t {
@@ -34,7 +34,7 @@ pub fn bits_of(doc: &[u8], t: Ty) -> Bits
     }
 }
 
-pub fn is_bool(doc: &[u8], t: Ty) -> bool
+pub(crate) fn is_bool(doc: &[u8], t: Ty) -> bool
     ensures { λ r. ⌜ r ≡ isBool (tyOf (now (doc .entry)) t) ⌝ }
 {
     match t {
@@ -47,7 +47,7 @@ pub fn is_bool(doc: &[u8], t: Ty) -> bool
 }
 
 // Whether two types are equal.
-pub fn same_ty(doc: &[u8], a: Ty, b: Ty) -> bool
+pub(crate) fn same_ty(doc: &[u8], a: Ty, b: Ty) -> bool
     ensures { λ r. ⌜ r ≡ sameType (tyOf (now (doc .entry)) a) (tyOf (now (doc .entry)) b) ⌝ }
 {
     match a {
@@ -84,7 +84,7 @@ pub fn same_ty(doc: &[u8], a: Ty, b: Ty) -> bool
 }
 
 // Whether one is a literal and the other a bitvector.
-pub fn literal_with_bits(a: Bits, b: Bits) -> bool
+pub(crate) fn literal_with_bits(a: Bits, b: Bits) -> bool
     ensures { λ r. ⌜ r ≡ literalWithBits a b ⌝ }
 {
     match a {
@@ -103,7 +103,7 @@ pub fn literal_with_bits(a: Bits, b: Bits) -> bool
 }
 
 // Whether one is a literal and the other a bool, as the test says.
-pub fn literal_with_bool(a: Bits, b: bool) -> bool
+pub(crate) fn literal_with_bool(a: Bits, b: bool) -> bool
     ensures { λ r. ⌜ r ≡ literalWithBool a b ⌝ }
 {
     match a {
