@@ -1,7 +1,7 @@
 // Reading: every byte string is accepted as one document, or refused with a fault and its place.
 //
-// `read_document` reads it all. `Cursor` and `Step` read one item: a cursor method hands back the cursor after
-// the item, a step method reads on after what was read before. `specs/` says what is right, `proofs/` why.
+// `read_document` reads it all. A `Cursor` reads one item and hands back the cursor after it; a `Step` is where reading
+// stands, and reads on after what was read before. `specs/` says what is right, `proofs/` why.
 mod cursor;
 mod decl;
 mod expr;
