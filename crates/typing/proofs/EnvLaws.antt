@@ -32,6 +32,7 @@ use Rattle.typing.specs.Causes.{firstOf}
 use Rattle.typing.specs.Names.{eqName, member, called, lastCalled}
 use Rattle.typing.specs.Env.{Env, Binding, named, bindingType, varType, given, enumHas, forModule, withBindings}
 use Rattle.typing.specs.Table.{placeAfter, afterItem, afterHead, pairsFrom, pairsOf, pairsAt, findFirst, findIn, widthType, caseType, exprTypeAt, memberFrom, memberOf, memberAt, typeFound, variantFound, envAt}
+use Rattle.typing.specs.Blames.{Bound, none-bound, more-bound}
 use Rattle.typing.proofs.TableLaws.{pairs-length}
 use Rattle.typing.proofs.Depends.{Agree}
 
@@ -268,15 +269,10 @@ find-after s w (suc k) m (x ∷ (y ∷ A)) B q =
     ∙ first-first (findFirst s w B m) (findFirst s w A k) t
     ∙ ap (firstOf (findFirst s w B m)) (sym (find-cons s w x y A k)))
 
--- a table of bindings: the place of each name, and of the type that is declared for its field
-pub data Bound (s : List ℕ) : List ℕ → List Binding → Type 0 where
-  none-bound : Bound s [] []
-  more-bound : {a b : ℕ} {T : List ℕ} {x : Binding} {bs : List Binding} → textAt s a ≡ x .name → exprTypeAt s b ≡ x .type → Bound s T bs → Bound s (a ∷ (b ∷ T)) (x ∷ bs)
-
 abbrev bindingName : Binding → Name
 bindingName b = b .name
 
-bound-length : {s T : List ℕ} {bs : List Binding} → Bound s T bs → length T ≡ 2 * length bs
+pub bound-length : {s T : List ℕ} {bs : List Binding} → Bound s T bs → length T ≡ 2 * length bs
 bound-length none-bound = refl
 bound-length (more-bound p q b) = let l = bound-length b in omega arith
 

@@ -20,3 +20,5 @@ pub mod Judges
 pub mod Accepts
 pub mod First
 pub mod Arguments
+pub mod Blames
+pub mod Holds

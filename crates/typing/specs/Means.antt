@@ -14,6 +14,10 @@ use Rattle.typing.specs.declared.ty.Ty.{Ty}
 use Rattle.typing.specs.declared.ty.Ty.the-variants.{Bool, Bit, IntLit, State, Enum}
 use Rattle.typing.specs.declared.cause.Cause.{Cause}
 use Rattle.typing.specs.declared.cause.Cause.the-variants as cause
+use Rattle.typing.specs.declared.cause.Within.{Within}
+use Rattle.typing.specs.declared.cause.Within.the-variants.{Alone, Field, Arg}
+use Rattle.typing.specs.declared.cause.Blame.{Blame}
+use Rattle.typing.specs.declared.cause.Blame.the-variants.{Nothing, Found}
 use Rattle.typing.specs.declared.rules.Fit.{Fit}
 use Rattle.typing.specs.declared.rules.Fit.the-variants.{Fine, Unfit}
 use Rattle.typing.specs.declared.cause.Typed.{Typed}
@@ -84,3 +88,12 @@ outcome next (fails c) = bad c
 unfoldable pub unfitOf : List ℕ → Fit → Option causes.Cause
 unfitOf s Fine = none
 unfitOf s (Unfit c) = some (causeOf s c)
+
+unfoldable pub withinOf : List ℕ → Within → causes.Within
+withinOf s Alone = causes.alone
+withinOf s (Field n) = causes.field (textAt s n)
+withinOf s (Arg n) = causes.arg (textAt s n)
+
+unfoldable pub blameOf : List ℕ → Blame → Option causes.Blame
+blameOf s Nothing = none
+blameOf s (Found w c) = some (record { within = withinOf s w; cause = causeOf s c })

@@ -81,3 +81,22 @@ pub enum Typed {
     Is(Ty, usize),
     Fails(Cause),
 }
+
+// The field or argument that a cause is about: the place of its name; or none of them.
+pub enum Within {
+    Alone,
+    Field(usize),
+    Arg(usize),
+}
+
+// What is wrong with a pattern or an output, if anything.
+pub enum Blame {
+    Nothing,
+    Found(Within, Cause),
+}
+
+// What is wrong with a pattern, and how many words of a table its bindings take.
+pub struct Bindings {
+    pub blame: Blame,
+    pub words: usize,
+}
