@@ -1,2 +1,3 @@
 -- Laws that belong to no one function, from the lowest to the highest.
 pub mod SheetLaws
+pub mod NoteLaws

@@ -10,3 +10,5 @@ pub mod Warnings
 pub mod Findings
 pub mod Demand
 pub mod Sheet
+pub mod Noting
+pub mod Scene
