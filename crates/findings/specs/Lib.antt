@@ -3,7 +3,7 @@ pub mod Lists
 pub mod Finding
 pub mod Order
 pub mod Reach
-pub mod Declared
+pub mod Mentions
 pub mod Pairs
 pub mod Errors
 pub mod Warnings

@@ -4,9 +4,10 @@ use mathlib.Core.Path.{_≡_}
 use mathlib.Core.List.{List, [], _∷_, _++_}
 use mathlib.Core.Option.{some}
 use lib.ListN.{getD, getElem?}
-use Rattle.reading.specs.Read.{Reader, ok}
+use lib.Seq.{sets}
+use Rattle.reading.specs.Read.{Read, Reader, ok, refused}
 use Rattle.reading.specs.Limits.{maxU32, maxList}
-use Rattle.reading.specs.Item.{readNumber}
+use Rattle.reading.specs.Item.{readNumber, readCount}
 use Rattle.reading.specs.Text.{Name, readName, readVersion}
 use Rattle.reading.specs.Combine.{listOf, optional}
 use Rattle.reading.specs.Decl.{readNames, readEnumDecl, readConstructorGroup, readVarDecl}
@@ -14,22 +15,47 @@ use Rattle.reading.specs.Pattern.{readPattern}
 use Rattle.reading.specs.Transition.{Transition, readTopExpr, readOutputExpr, readAssignment, readOnError, readTransition}
 use Rattle.reading.specs.Module.{Module, readProperty}
 use Rattle.typing.specs.Table.{afterItem, afterHead}
+use Rattle.findings.specs.declared.rows.Listed.{Listed}
 use Rattle.typing.specs.declared.table.Found.{Found}
 use Rattle.typing.specs.declared.table.Found.the-variants.{At, Nothing}
 
--- so many items from a place on, one after another: their places
+-- so many items from a place on, one after another: their places, and the place after them
 unfoldable pub rowFrom : ℕ → List ℕ → ℕ → List ℕ
 rowFrom zero s k = []
 rowFrom (suc f) s k = k ∷ rowFrom f s (afterItem s k)
 
--- the places of the first fields of the record at a place
+unfoldable pub endFrom : ℕ → List ℕ → ℕ → ℕ
+endFrom zero s k = k
+endFrom (suc f) s k = endFrom f s (afterItem s k)
+
+-- those of the first fields of the record at a place
 abbrev pub rowAt : ℕ → List ℕ → ℕ → List ℕ
 rowAt fields s at = rowFrom fields s (afterHead s at)
 
--- those of so many records from a place on
-unfoldable pub rowsFrom : ℕ → ℕ → List ℕ → ℕ → List ℕ
-rowsFrom zero fields s at = []
-rowsFrom (suc c) fields s at = rowAt fields s at ++ rowsFrom c fields s (afterItem s at)
+abbrev pub rowEnd : ℕ → List ℕ → ℕ → ℕ
+rowEnd fields s at = endFrom fields s (afterHead s at)
+
+-- those of so many transitions from a place on
+unfoldable pub rowsFrom : ℕ → List ℕ → ℕ → List ℕ
+rowsFrom zero s k = []
+rowsFrom (suc c) s k = rowAt 8 s k ++ rowsFrom c s (rowEnd 8 s k)
+
+unfoldable pub rowsEnd : ℕ → List ℕ → ℕ → ℕ
+rowsEnd zero s k = k
+rowsEnd (suc c) s k = rowsEnd c s (rowEnd 8 s k)
+
+unfoldable pub rowsOf : List ℕ → Read ℕ → List ℕ
+rowsOf s (ok count first) = rowsFrom count s first
+rowsOf s (refused f p) = []
+
+-- those of the list at a place
+unfoldable pub rowsAt : List ℕ → ℕ → List ℕ
+rowsAt s at = rowsOf s (readCount maxList s at)
+
+-- a table is filled from its start on; the other words keep their contents, and what does not fit is left out
+pub record RowsFilled (s : List ℕ) (at : ℕ) (table : List ℕ) (r : Listed) (table′ : List ℕ) : Type 0 where
+  pub words : table′ ≡ sets table 0 (rowsAt s at)
+  pub of : (count first : ℕ) → readCount maxList s at ≡ ok count first → (r .count ≡ count) × (r .end ≡ rowsEnd count s first)
 
 -- content reads at a place
 pub record Reads {A : Type 0} (F : Reader A) (s : List ℕ) (at : ℕ) (x : A) : Type 0 where

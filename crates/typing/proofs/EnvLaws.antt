@@ -30,11 +30,10 @@ use Rattle.reading.proofs.Walks.{passed, name-text}
 use Rattle.typing.specs.Types.{ExprType, bool, enum, typeToExprType}
 use Rattle.typing.specs.Causes.{firstOf}
 use Rattle.typing.specs.Names.{eqName, member, called, lastCalled}
-use Rattle.typing.specs.Env.{Env, Binding, named, bindingType, varType, given, enumHas, forModule, withBindings}
+use Rattle.typing.specs.Env.{Env, Binding, named, bindingType, varType, given, enumHas, forModule, withBindings, Agree}
 use Rattle.typing.specs.Table.{placeAfter, afterItem, afterHead, pairsFrom, pairsOf, pairsAt, findFirst, findIn, widthType, caseType, exprTypeAt, memberFrom, memberOf, memberAt, typeFound, variantFound, envAt}
 use Rattle.typing.specs.Blames.{Bound, none-bound, more-bound}
 use Rattle.typing.proofs.TableLaws.{pairs-length}
-use Rattle.typing.proofs.Depends.{Agree}
 
 -- an entry, and those after it
 pub record Uncons {A : Type 0} (F : Reader A) (s : List ℕ) (c k : ℕ) (l : List A) (n : ℕ) : Type 0 where
