@@ -12,3 +12,4 @@ pub mod Demand
 pub mod Sheet
 pub mod Noting
 pub mod Scene
+pub mod Promises
