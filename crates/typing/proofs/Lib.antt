@@ -15,3 +15,4 @@ pub mod JudgeLaws
 pub mod AcceptLaws
 pub mod FirstLaws
 pub mod ArgLaws
+pub mod NumberLaws
