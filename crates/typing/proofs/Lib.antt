@@ -15,3 +15,6 @@ pub mod JudgeLaws
 pub mod AcceptLaws
 pub mod FirstLaws
 pub mod ArgLaws
+pub mod EntryLaws
+pub mod EmitLaws
+pub mod NumberLaws

@@ -1,8 +1,10 @@
 // Typing: the types of expressions, patterns, outputs and formulas of an accepted document, with their causes.
 //
 // `specs/` says what is right, over the document's content; `proofs/` says why the code gives it.
+mod args;
 mod binds;
 mod cause;
+mod entries;
 mod expr;
 mod fill;
 mod first;
@@ -10,6 +12,7 @@ mod fits;
 mod formula;
 mod guard;
 mod names;
+mod number;
 mod output;
 mod path;
 mod pattern;
@@ -36,7 +39,11 @@ pub use first::first_variant;
 pub use formula::after_formula;
 pub use formula::bounded_always_error;
 pub use guard::Clash;
+pub use number::blame_number;
+pub use number::cause_number;
+pub use number::fit_number;
 pub use output::arg_compatible;
+pub use output::validate_output_expr;
 pub use path::resolve_path;
 pub use pattern::pattern_expr_compatible;
 pub use rules::Fit;
