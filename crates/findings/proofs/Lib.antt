@@ -2,3 +2,4 @@
 pub mod SheetLaws
 pub mod NoteLaws
 pub mod RowLaws
+pub mod EachLaws
