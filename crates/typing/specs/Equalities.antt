@@ -23,8 +23,8 @@ use Rattle.typing.specs.declared.equality.Equality.{Equality}
 use Rattle.typing.specs.declared.equality.Equality.the-variants.{Nothing, Is}
 use Rattle.typing.specs.declared.equality.Conjunct.{Conjunct}
 use Rattle.typing.specs.declared.equality.Conjunct.the-variants.{And, One}
-use Rattle.typing.specs.declared.equality.Side.{Side}
-use Rattle.typing.specs.declared.equality.Side.the-variants as side
+use Rattle.typing.specs.declared.side.Side.{Side}
+use Rattle.typing.specs.declared.side.Side.the-variants as side
 
 -- a side of ==: a literal, a path of one name, or anything else
 pub data Operand : Type 0 where

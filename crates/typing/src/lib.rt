@@ -18,6 +18,7 @@ mod output;
 mod path;
 mod pattern;
 mod rules;
+mod side;
 mod table;
 mod temporal;
 mod ty;

@@ -1,8 +1,8 @@
 -- By how many names the path has.
 use Rattle.typing.proofs.EqualityLaws.{name-none, name-other, name-only}
 use borrow.Author.Needs.{needs}
-use Rattle.typing.proofs.equality.name_at.Statement.{statement}
-use Rattle.typing.proofs.equality.name_at.Tie as tie
+use Rattle.typing.proofs.side.name_at.Statement.{statement}
+use Rattle.typing.proofs.side.name_at.Tie as tie
 
 pub name-at-spec : {M : Type 1} → statement M
 name-at-spec =

@@ -1,8 +1,8 @@
 -- By the case that stands there.
 use Rattle.typing.proofs.EqualityLaws.{side-none, side-int, side-bool, side-path, side-other}
 use borrow.Author.Needs.{needs}
-use Rattle.typing.proofs.equality.side_at.Statement.{statement}
-use Rattle.typing.proofs.equality.side_at.Tie as tie
+use Rattle.typing.proofs.side.side_at.Statement.{statement}
+use Rattle.typing.proofs.side.side_at.Tie as tie
 
 pub side-at-spec : {M : Type 1} → statement M
 side-at-spec =
