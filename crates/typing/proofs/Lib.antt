@@ -17,4 +17,7 @@ pub mod FirstLaws
 pub mod ArgLaws
 pub mod EntryLaws
 pub mod EmitLaws
+pub mod ClashLaws
+pub mod EqualityLaws
+pub mod GuardLaws
 pub mod NumberLaws

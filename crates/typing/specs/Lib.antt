@@ -24,3 +24,4 @@ pub mod Entries
 pub mod Emits
 pub mod Blames
 pub mod Holds
+pub mod Equalities
