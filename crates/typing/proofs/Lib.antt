@@ -14,4 +14,8 @@ pub mod EnvLaws
 pub mod JudgeLaws
 pub mod AcceptLaws
 pub mod FirstLaws
+pub mod FieldLaws
+pub mod BoundLaws
+pub mod EventLaws
+pub mod FewLaws
 pub mod ArgLaws

@@ -21,4 +21,6 @@ pub mod Accepts
 pub mod First
 pub mod Arguments
 pub mod Blames
+pub mod Fields
+pub mod Event
 pub mod Holds

@@ -10,7 +10,7 @@ ghost use lib.Seq.{sets};
 ghost use Rattle.typing.specs.Table.{afterHead, afterTag, pairsAt, Filled};
 
 // Puts a place into the table, where it has such a word.
-fn store(table: &mut [usize], j: usize, place: usize)
+pub(crate) fn store(table: &mut [usize], j: usize, place: usize)
     ensures { λ _. ⌜ now (table .exit) ≡ set (now (table .entry)) j place ⌝ }
 {
     if j < table.len() {

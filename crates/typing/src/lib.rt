@@ -3,7 +3,9 @@
 // `specs/` says what is right, over the document's content; `proofs/` says why the code gives it.
 mod binds;
 mod cause;
+mod event;
 mod expr;
+mod field;
 mod fill;
 mod first;
 mod fits;
@@ -25,6 +27,7 @@ pub use cause::Cause;
 pub use cause::Typed;
 pub use cause::What;
 pub use cause::Within;
+pub use event::validate_event_pattern;
 pub use expr::after_expr;
 pub use expr::type_expr;
 pub use fill::fill_table;
