@@ -1,6 +1,6 @@
 -- What each step of the judging of an event pattern gives, for whatever reads there.
 use Prim.Native.Nat.{ℕ}
-use mathlib.Core.Path.{_≡_, refl, sym, ap, subst, _∙_}
+use mathlib.Core.Path.{_≡_, refl, sym, ap, _∙_}
 use mathlib.Core.Bool.{Bool, true, false}
 use mathlib.Core.List.{List, [], _∷_}
 use mathlib.Core.Option.{Option, none, some}
@@ -58,10 +58,6 @@ binds-alone s table k q e = rw q (record { fault = rw e; pairs = []; are = none-
 binds-nothing : (s table : List ℕ) (k : ℕ) → Binds s table k (judged none) (record { blame = blames.Nothing; words = 0 }) table
 unfolding blameOf
 binds-nothing s table k = record { fault = refl; pairs = []; are = none-bound; many = refl; words = refl }
-
--- the place after the name of a data enum
-pub past-name : (s : List ℕ) (at : ℕ) {k r : ℕ} → k ≡ afterTag s at → Past s k r → Past s (afterTag s at) r
-past-name s at {k} {r} h p = subst (λ (z : ℕ). Past s z r) h p
 
 -- whether a variant has fields
 module _ (s : List ℕ) (at : ℕ) {a : Tagged} (e : a ≡ taggedOf (readTag s at)) where

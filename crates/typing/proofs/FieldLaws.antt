@@ -6,7 +6,7 @@ use mathlib.Core.List.{List, [], _∷_}
 use mathlib.Core.Option.{Option, none, some}
 use native.Mathlib.Omega.{arith}
 use native.Mathlib.Numerals.{add-one}
-use lib.ListN.{length, getD, set, length-set}
+use lib.ListN.{length, getD, set}
 use lib.Seq.{set-out}
 use lib.Dec.{eqb}
 use borrow.Author.Tests.{eq-eqb, ne-eqb}
@@ -52,9 +52,9 @@ use Rattle.typing.specs.declared.field.Naming.{Naming}
 use Rattle.typing.specs.declared.field.Naming.the-variants.{Unnamed, Again, Fresh}
 use Rattle.typing.proofs.EnvLaws.{after-is, fields-head, type-is}
 
--- the place after a record's first field
-pub past-first : (s : List ℕ) (at : ℕ) {k r : ℕ} → k ≡ afterHead s at → Past s k r → Past s (afterHead s at) r
-past-first s at {k} {r} h p = subst (λ (z : ℕ). Past s z r) h p
+-- the place after the item at a place that is known
+pub past-at : {s : List ℕ} {k k′ r : ℕ} → k ≡ k′ → Past s k r → Past s k′ r
+past-at {s} {k} {k′} {r} h p = subst (λ (z : ℕ). Past s z r) h p
 
 -- whether a field has the name
 module _ (s : List ℕ) (at : ℕ) (w : Name) {k : ℕ} {b : Bool} (h : k ≡ afterHead s at) (e : b ≡ eqb (getD s k 0) 246) where
@@ -203,7 +203,6 @@ module _ (s : List ℕ) (at decl first i : ℕ) {name : Naming} (table : List �
   unfolding namedOf nameIn judgeField
   judge-unnamed {b} q e = record {
     few = omega arith;
-    size = refl;
     of = λ x n f m seen g d p. go seen x f (x .name) (sym (ap (namedOf s) q) ∙ a .of x n seen g p) (e .of x n f m g d);
   }
     where
@@ -215,7 +214,6 @@ module _ (s : List ℕ) (at decl first i : ℕ) {name : Naming} (table : List �
   unfolding namedOf nameIn judgeField pick blameOf withinOf causeOf blame
   judge-again {k} q = record {
     few = omega arith;
-    size = refl;
     of = λ x n f m seen g d p. go seen x f (x .name) (sym (ap (namedOf s) q) ∙ a .of x n seen g p);
   }
     where
@@ -229,7 +227,6 @@ module _ (s : List ℕ) (at decl first i : ℕ) {name : Naming} (table : List �
   unfolding namedOf nameIn judgeField pick bound
   judge-fresh {k} {ty} {table′} {b} q o t e = record {
     few = omega arith;
-    size = rw t (length-set (set table w k) (w + 1) ty ∙ length-set table w k);
     of = λ x n f m seen g d p.
         let b = type-stands s decl o f m d in
         go seen x f (x .name) (sym (ap (namedOf s) q) ∙ a .of x n seen g p) (e .of x n f m g d) (type-is s ty (f .ty) (b .0) (b .1));

@@ -15,7 +15,7 @@ pub mod JudgeLaws
 pub mod AcceptLaws
 pub mod FirstLaws
 pub mod FieldLaws
-pub mod BoundLaws
+pub mod WalkLaws
 pub mod EventLaws
 pub mod FewLaws
 pub mod ArgLaws

@@ -66,7 +66,6 @@ noMore names = judged none
 -- the field alone, by the fields before it; its bindings from word w on
 pub record JudgesField (s : List ℕ) (at decl first i : ℕ) (table : List ℕ) (w : ℕ) (r : Bindings) (table′ : List ℕ) : Type 0 where
   pub few : r .words ≤ 2
-  pub size : length table′ ≡ length table
   pub of : (x : PatternField) (n : ℕ) (f : FieldDecl) (m : ℕ) (seen : List Name) → readPatternField s at ≡ ok x n → readFieldDecl s decl ≡ ok f m → Passed s first i seen → Binds s table w (judgeField noMore seen f x (x .name)) r table′
 
 -- how many entries the list at a place has

@@ -2,7 +2,7 @@
 use Prim.Native.Nat.{_-_}
 use native.Mathlib.Omega.{arith}
 use borrow.Author.Needs.{needs}
-use Rattle.typing.proofs.BoundLaws.{Walking, fields-start, fields-done, fields-stop, fields-more}
+use Rattle.typing.proofs.WalkLaws.{Walking, fields-start, fields-done, fields-stop, fields-more}
 use Rattle.typing.proofs.field.judge_fields.Statement.{statement}
 use Rattle.typing.proofs.field.judge_fields.Tie as tie
 

@@ -268,10 +268,10 @@ module _ (s : List ℕ) (at at′ k : ℕ) (table : List ℕ) where
             subst (λ (l : Judged). Binds s table k l (record { blame = r .blame; words = j + r .words }) now′) (ap (joined (t .made)) (sym e) ∙ t .same) (binds-join (t .so-far) (t .own));
       }
 
-      pub fields-more : {p′ f′ : ℕ} → r .blame ≡ Nothing → Past s p p′ → Past s f f′ → Walking s at at′ k table count first (i + 1) p′ f′ (j + r .words) now′
+      pub fields-more : {p′ f′ : ℕ} → r .blame ≡ Nothing → length now′ ≡ length now → Past s p p′ → Past s f f′ → Walking s at at′ k table count first (i + 1) p′ f′ (j + r .words) now′
       unfolding stepped blameOf
-      fields-more y past past′ = record {
-        size = o .size ∙ g .size;
+      fields-more y z past past′ = record {
+        size = z ∙ g .size;
         few = g .few;
         room = let q = g .room in let t = o .few in omega arith;
         place = past .is ∙ ap (afterItem s) (g .place) ∙ ap (stepped s first) (sym (add-one i));
