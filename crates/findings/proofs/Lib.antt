@@ -1,2 +1,7 @@
 -- Laws that belong to no one function, from the lowest to the highest.
 pub mod SheetLaws
+pub mod ListLaws
+pub mod Permutations
+pub mod Places
+pub mod NamesOnce
+pub mod Chains
