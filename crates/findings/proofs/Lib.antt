@@ -5,3 +5,8 @@ pub mod Permutations
 pub mod Places
 pub mod NamesOnce
 pub mod Chains
+pub mod Sites
+pub mod Renaming
+pub mod PairLaws
+pub mod Orderless
+pub mod Parts

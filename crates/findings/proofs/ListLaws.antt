@@ -117,10 +117,10 @@ module _ {A B C : Type 0} where
   eachPair-map f g [] = refl
   eachPair-map f g (x ∷ l) = ap₂ _++_ (each-map (f (g x)) g l) (eachPair-map f g l)
 
-pub eachPair-cong : {A B : Type 0} (f g : A → A → List B) (l : List A) → ((x : A) → List·Memᴰ x l → (y : A) → f x y ≡ g x y) → eachPair f l ≡ eachPair g l
-eachPair-cong f g [] h = refl
-eachPair-cong f g (x ∷ l) h = ap₂ _++_ (each-cong l) (eachPair-cong f g l (λ y m. h y (List·Memᴰ·tail m)))
-  where
-    each-cong : (k : List _) → each (f x) k ≡ each (g x) k
-    each-cong [] = refl
-    each-cong (y ∷ k) = ap₂ _++_ (h x (List·Memᴰ·head refl) y) (each-cong k)
+pub each-cong : {A B : Type 0} {f g : A → List B} (l : List A) → ((x : A) → f x ≡ g x) → each f l ≡ each g l
+each-cong [] h = refl
+each-cong (x ∷ l) h = ap₂ _++_ (h x) (each-cong l h)
+
+pub eachPair-cong : {A B : Type 0} {f g : A → A → List B} (l : List A) → ((x : A) → List·Memᴰ x l → (y : A) → f x y ≡ g x y) → eachPair f l ≡ eachPair g l
+eachPair-cong [] h = refl
+eachPair-cong (x ∷ l) h = ap₂ _++_ (each-cong l (h x (List·Memᴰ·head refl))) (eachPair-cong l (λ y m. h y (List·Memᴰ·tail m)))
