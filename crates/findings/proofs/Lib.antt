@@ -10,3 +10,8 @@ pub mod Renaming
 pub mod PairLaws
 pub mod Orderless
 pub mod Parts
+pub mod Rearrange
+pub mod Unreachable
+pub mod Accepted
+pub mod EveryRearrangement
+pub mod Demand

@@ -37,7 +37,7 @@ pub mem-member : {n : Name} {ns : List Name} → List·Memᴰ n ns → member n 
 mem-member {n} m = rw member-any (some-any (λ x. eqName x n) m (eqName-refl n))
 
 pub perm-member : {ns ms : List Name} → List·Permᴰ ns ms → (n : Name) → member n ns ≡ member n ms
-perm-member p n = rw (member-any, member-any) (perm-any (λ x. eqName x n) p)
+perm-member {ns} {ms} p n = rw (member-any n ns, member-any n ms) (perm-any (λ x. eqName x n) p)
 
 -- the least of some names is one of them
 least-mem : (x : Name) (xs : List Name) → List·Memᴰ (least x xs) (x ∷ xs)
