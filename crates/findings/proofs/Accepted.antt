@@ -1,14 +1,13 @@
 -- The rearranged document is accepted too: its content is within the limits and its encoding is as long, since both ask the same of each
 -- transition and of their number.
-use Prim.Native.Nat.{ℕ, zero, suc, _+_, _≤_}
+use Prim.Native.Nat.{ℕ, zero, suc, _+_}
 use mathlib.Core.Path.{_≡_, refl, sym, ap, ap₂, subst, _∙_}
-use mathlib.Core.List.{List, [], _∷_, _++_, List·Permᴰ, List·Permᴰ·nil, List·Permᴰ·cons, List·Permᴰ·swap, List·Permᴰ·trans}
+use mathlib.Core.List.{List, [], _∷_, List·Permᴰ, List·Permᴰ·nil, List·Permᴰ·cons, List·Permᴰ·swap, List·Permᴰ·trans}
 use mathlib.Core.Option.{some}
 use native.Mathlib.Omega.{arith}
 use lib.ListN.{length, getElem?, length-append}
-use Rattle.reading.specs.Limits.{maxDocument}
-use Rattle.reading.specs.Encode.{encHead, encAll, encList, All, empty, more, WithinList}
-use Rattle.reading.specs.Transition.{Transition, encTransition, WithinTransition}
+use Rattle.reading.specs.Encode.{encHead, encAll, encList, All, more, WithinList}
+use Rattle.reading.specs.Transition.{Transition, encTransition}
 use Rattle.reading.specs.Module.{Module, Ir, encModule, encIr, WithinModule, WithinIr}
 use Rattle.reading.specs.Read.{ok}
 use Rattle.reading.specs.Document.{readDocument}
@@ -76,11 +75,11 @@ module _ (y : Module) (us : List Transition) (p : List·Permᴰ (y .transitions)
   all-inPlace (z ∷ ms) zero e (more w a) = let q : z ≡ y = cc in more (module-within z us (rw q p) w) a
   all-inPlace (z ∷ ms) (suc m) e (more w a) = more w (all-inPlace ms m e a)
 
-  pub ir-length : (x : Ir) (m : ℕ) → getElem? (x .modules) m ≡ some y → length (encIr (rearranged m us x)) ≡ length (encIr x)
+  ir-length : (x : Ir) (m : ℕ) → getElem? (x .modules) m ≡ some y → length (encIr (rearranged m us x)) ≡ length (encIr x)
   unfolding encIr encList
   ir-length x m e = simp (length-append, length-inPlace, encAll-inPlace (x .modules) m e)
 
-  pub ir-within : (x : Ir) (m : ℕ) → getElem? (x .modules) m ≡ some y → WithinIr x → WithinIr (rearranged m us x)
+  ir-within : (x : Ir) (m : ℕ) → getElem? (x .modules) m ≡ some y → WithinIr x → WithinIr (rearranged m us x)
   unfolding WithinIr
   ir-within x m e w =
       (w .0, record { most = rw (length-inPlace (x .modules) m) (w .1 .most); each = all-inPlace (x .modules) m e (w .1 .each) })
@@ -89,6 +88,6 @@ module _ (y : Module) (us : List Transition) (p : List·Permᴰ (y .transitions)
   rearranged-accepted s b x n h m e =
       let a = document-sound s b x n h in
       document-complete
-        (rearranged m us x)
-        (ir-within x m e (a .within))
-        (omega (arith, ir-length x m e, ap length (a .bytes), a .short))
+      (rearranged m us x)
+      (ir-within x m e (a .within))
+      (omega (arith, ir-length x m e, ap length (a .bytes), a .short))

@@ -46,7 +46,7 @@ module _ {S : Type 0} (Starts : S → Name → Type 0) (starts : S → Name → 
   chain-more s [] a m h t = ((m, t, tt), refl)
   chain-more s (b ∷ c) a m h t = let r = chain-more (ends b) c a m (h .2) t in ((h .0, h .1, r .0), r .1)
 
-  pub leads-more : (s n : Name) (a : S) → List·Memᴰ a all → Leads Starts ends all s n → Starts a n → Leads Starts ends all s (ends a)
+  leads-more : (s n : Name) (a : S) → List·Memᴰ a all → Leads Starts ends all s n → Starts a n → Leads Starts ends all s (ends a)
   leads-more s n a m l t =
       let r = chain-more s (l .0) a m (l .1) (subst (λ x. Starts a x) (sym (l .2)) t) in
       (l .0 ++ (a ∷ []), r .0, r .1)
@@ -56,8 +56,8 @@ module _ {S : Type 0} (Starts : S → Name → Type 0) (starts : S → Name → 
   grown-leads s (suc k) ns l sub h = go (choose starts ns l) (chosen starts ns l) (λ ms m f g. grown-leads s k ms m f g)
     where
       go : (q : Choice S) → Chosen starts ns l q
-        → ((ms : List Name) (m : List S) → ((a : S) → List·Memᴰ a m → List·Memᴰ a all) → ((n : Name) → List·Memᴰ n ms → Leads Starts ends all s n) → (n : Name) → List·Memᴰ n (grown starts ends k ms m) → Leads Starts ends all s n)
-        → (n : Name) → List·Memᴰ n (further ends (λ ms m. grown starts ends k ms m) ns q) → Leads Starts ends all s n
+          → ((ms : List Name) (m : List S) → ((a : S) → List·Memᴰ a m → List·Memᴰ a all) → ((n : Name) → List·Memᴰ n ms → Leads Starts ends all s n) → (n : Name) → List·Memᴰ n (grown starts ends k ms m) → Leads Starts ends all s n)
+          → (n : Name) → List·Memᴰ n (further ends (λ ms m. grown starts ends k ms m) ns q) → Leads Starts ends all s n
       go stuck p rec = h
       go (took a rest) p rec = rec (ends a ∷ ns) rest (λ b m. sub b (perm-mem (Permᴰ·symm (p .1)) (List·Memᴰ·tail m))) (λ n m. put n (List·Memᴰ·cases-cons m))
         where
@@ -86,8 +86,8 @@ module _ {S : Type 0} (Starts : S → Name → Type 0) (starts : S → Name → 
   grown-closed (suc k) ns l b h = go (choose starts ns l) (chosen starts ns l) (λ ms m c f. grown-closed k ms m c f)
     where
       go : (q : Choice S) → Chosen starts ns l q
-        → ((ms : List Name) (m : List S) → length m ≤ k → ((a : S) → List·Memᴰ a all → List·Memᴰ a m ⊎ List·Memᴰ (ends a) ms) → Closed (grown starts ends k ms m))
-        → Closed (further ends (λ ms m. grown starts ends k ms m) ns q)
+          → ((ms : List Name) (m : List S) → length m ≤ k → ((a : S) → List·Memᴰ a all → List·Memᴰ a m ⊎ List·Memᴰ (ends a) ms) → Closed (grown starts ends k ms m))
+          → Closed (further ends (λ ms m. grown starts ends k ms m) ns q)
       go stuck p rec = λ a n ma mn t. put a n mn t (h a ma)
         where
           put : (a : S) (n : Name) → List·Memᴰ n ns → Starts a n → List·Memᴰ a l ⊎ List·Memᴰ (ends a) ns → List·Memᴰ (ends a) ns
@@ -135,15 +135,15 @@ module _ {S : Type 0} (Starts : S → Name → Type 0) (starts : S → Name → 
 
   -- marks are the test for what is reached, if the start is marked, the marks are closed under steps, and a chain leads to each
   pub reached-by : (s : Name) (marked : Name → Bool) → marked s ≡ true
-    → ((a : S) (n : Name) → List·Memᴰ a all → marked n ≡ true → Starts a n → marked (ends a) ≡ true)
-    → ((n : Name) → marked n ≡ true → Leads Starts ends all s n)
-    → (n : Name) → member n (reached starts ends s all) ≡ marked n
+      → ((a : S) (n : Name) → List·Memᴰ a all → marked n ≡ true → Starts a n → marked (ends a) ≡ true)
+      → ((n : Name) → marked n ≡ true → Leads Starts ends all s n)
+      → (n : Name) → member n (reached starts ends s all) ≡ marked n
   reached-by s marked h₀ cl sound n =
       bool-ext
-        _
-        _
-        (λ e. let l = reached-iff s n .0 e in subst (λ x. marked x ≡ true) (l .2) (along s (l .0) h₀ (l .1)))
-        (λ e. reached-iff s n .1 (sound n e))
+      _
+      _
+      (λ e. let l = reached-iff s n .0 e in subst (λ x. marked x ≡ true) (l .2) (along s (l .0) h₀ (l .1)))
+      (λ e. reached-iff s n .1 (sound n e))
     where
       along : (r : Name) (c : List S) → marked r ≡ true → IsChain Starts ends all r c → marked (endOf ends r c) ≡ true
       along r [] m h = m

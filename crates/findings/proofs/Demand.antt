@@ -6,14 +6,14 @@ use mathlib.Core.List.{List, [], _∷_, map, List·Permᴰ, List·Permᴰ·nil, 
 use mathlib.Core.Option.{some}
 use mathlib.Core.Bool.{cond}
 use native.Mathlib.Omega.{arith}
-use lib.ListN.{getElem?}
+use lib.ListN.{length, length-append, getElem?}
 use Rattle.reading.specs.Read.{ok}
 use Rattle.reading.specs.Transition.{Transition}
 use Rattle.reading.specs.Module.{Module, Ir}
 use Rattle.reading.specs.Document.{readDocument}
 use Rattle.reading.proofs.HeadSound.{Bytes}
 use Rattle.typing.specs.Names.{eqName}
-use Rattle.findings.specs.Finding.{Note, Finding, words}
+use Rattle.findings.specs.Finding.{Finding, words}
 use Rattle.findings.specs.Warnings.{warnings}
 use Rattle.findings.specs.Findings.{findings}
 use Rattle.findings.specs.Demand.{Rearranged, withTransitions, rearranged, renamedNote, renamed, ofModule, Demand3}
@@ -32,7 +32,7 @@ demand-3 s b x n h m y e ρ us r =
       as-many-errors = as-many-errors x m y ρ us e r;
       as-many-warnings = as-many-warnings x m y ρ us e r;
       before = unreachables x m y e;
-      after = unreachables (rearranged m us x) m (withTransitions us y) (inPlace-there (x .modules) m us y e)
+      after = unreachables (rearranged m us x) m (withTransitions us y) (inPlace-there (x .modules) m us y e);
     }
 
 -- so for every rearranged list: it has a renaming
@@ -40,6 +40,11 @@ pub demand-3-of-perm : (s : List ℕ) → Bytes s → (x : Ir) (n : ℕ) → rea
 demand-3-of-perm s b x n h m y e us p =
     let r = every-rearrangement p in
     (r .0, r .1, demand-3 s b x n h m y e (r .0) us (r .1))
+
+-- both documents have as many findings, so that as many words hold either or neither
+pub as-many-findings : (x : Ir) (m : ℕ) (y : Module) → getElem? (x .modules) m ≡ some y → (ρ : ℕ → ℕ) (us : List Transition) → Rearranged ρ (y .transitions) us → length (findings (rearranged m us x)) ≡ length (findings x)
+unfolding findings
+as-many-findings x m y e ρ us r = simp length-append (ap₂ _+_ (as-many-errors x m y ρ us e r) (as-many-warnings x m y ρ us e r))
 
 -- a module's warnings, by its content alone
 pub warnings-stay : (y : Module) (ρ : ℕ → ℕ) (us : List Transition) → Rearranged ρ (y .transitions) us → List·Permᴰ (map (renamedNote ρ) (warnings y)) (warnings (withTransitions us y))
@@ -63,5 +68,6 @@ perm-times (List·Permᴰ·swap {a} {b} {a′} {b′} {l} e₁ e₂) f =
     omega arith
 perm-times (List·Permᴰ·trans d₁ d₂) f = perm-times d₁ f ∙ perm-times d₂ f
 
-pub as-often : (x : Ir) (m : ℕ) (y : Module) (ρ : ℕ → ℕ) (us : List Transition) → getElem? (x .modules) m ≡ some y → Rearranged ρ (y .transitions) us → (f : Finding) → times f (map (renamed ρ) (ofModule m (findings x))) ≡ times f (ofModule m (findings (rearranged m us x)))
-as-often x m y ρ us e r = perm-times (same-findings x m y ρ us e r)
+-- a finding stands as often before, once renamed, as after
+pub as-often : (x : Ir) (m : ℕ) (y : Module) → getElem? (x .modules) m ≡ some y → (ρ : ℕ → ℕ) (us : List Transition) → Rearranged ρ (y .transitions) us → (f : Finding) → times f (map (renamed ρ) (ofModule m (findings x))) ≡ times f (ofModule m (findings (rearranged m us x)))
+as-often x m y e ρ us r = perm-times (same-findings x m y ρ us e r)

@@ -69,7 +69,7 @@ rearranged-trans {ρ} {σ} {ts} {us} {vs} r s =
     record {
       as-many = s .as-many ∙ r .as-many;
       apart = λ i j h k p. r .apart i j h k (s .apart (ρ i) (ρ j) (lands i h) (lands j k) p);
-      moved = λ i h. s .moved (ρ i) (lands i h) ∙ r .moved i h
+      moved = λ i h. s .moved (ρ i) (lands i h) ∙ r .moved i h;
     }
   where
     lands : (i : ℕ) → i < length ts → ρ i < length us

@@ -15,3 +15,4 @@ pub mod Unreachable
 pub mod Accepted
 pub mod EveryRearrangement
 pub mod Demand
+pub mod Examples

@@ -63,10 +63,6 @@ module _ {A B : Type 0} where
   each-nil [] = refl
   each-nil (x ∷ l) = each-nil l
 
-  pub eachPair-nil : (l : List A) → eachPair {B = B} (λ (x y : A). []) l ≡ []
-  eachPair-nil [] = refl
-  eachPair-nil (x ∷ l) = ap₂ _++_ (each-nil l) (eachPair-nil l)
-
   pub map-cond : (f : A → B) (b : Bool) (x y : List A) → map f (cond b x y) ≡ cond b (map f x) (map f y)
   map-cond f true x y = refl
   map-cond f false x y = refl
@@ -75,18 +71,6 @@ module _ {A B : Type 0} (f : A → List B) where
   pub each-append : (a b : List A) → each f (a ++ b) ≡ each f a ++ each f b
   each-append [] b = refl
   each-append (x ∷ a) b = ap (λ k. f x ++ k) (each-append a b) ∙ sym (append-assoc (f x) (each f a) (each f b))
-
-  pub each-cond : (b : Bool) (x y : List A) → each f (cond b x y) ≡ cond b (each f x) (each f y)
-  each-cond true x y = refl
-  each-cond false x y = refl
-
-  pub each-each : {C : Type 0} (g : C → List A) (l : List C) → each f (each g l) ≡ each (λ x. each f (g x)) l
-  each-each g [] = refl
-  each-each g (x ∷ l) = each-append (g x) (each g l) ∙ ap (λ k. each f (g x) ++ k) (each-each g l)
-
-  pub each-eachPair : {C : Type 0} (g : C → C → List A) (l : List C) → each f (eachPair g l) ≡ eachPair (λ x y. each f (g x y)) l
-  each-eachPair g [] = refl
-  each-eachPair g (x ∷ l) = each-append (each (g x) l) (eachPair g l) ∙ ap₂ _++_ (each-each (g x) l) (each-eachPair g l)
 
   pub mem-each : {x : A} {l : List A} {z : B} → List·Memᴰ x l → List·Memᴰ z (f x) → List·Memᴰ z (each f l)
   mem-each {z} (List·Memᴰ·head {xs} e) n = Memᴰ·append-left (each f xs) (subst (λ y. List·Memᴰ z (f y)) e n)

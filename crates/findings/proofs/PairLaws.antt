@@ -5,7 +5,7 @@ use mathlib.Core.Path.{_≡_, refl, ap, ap₂, sym, _∙_}
 use mathlib.Core.List.{List, [], _∷_, _++_, map, map-append, List·Memᴰ, List·Memᴰ·head, List·Memᴰ·tail, List·Memᴰ·not-nil}
 use mathlib.Core.List.{List·Permᴰ, List·Permᴰ·trans}
 use mathlib.Core.Option.{Option, none, some}
-use mathlib.Core.Bool.{Bool, cond, not, _&&_}
+use mathlib.Core.Bool.{cond, not, _&&_}
 use native.Mathlib.Nat.{min-comm, max-comm, min-eq-left, max-eq-right}
 use native.Mathlib.Omega.{arith}
 use lib.ListN.{length, length-map}
@@ -30,8 +30,8 @@ pub byState-perm : (f : Placed Transition → Placed Transition → List Note) (
 unfolding byState stateNames
 byState-perm f ts =
     List·Permᴰ·trans
-      (eachPair-swap (λ s x y. cond (eqName s (x .item .state)) (f x y) []) (stateNames ts) (placed 0 ts))
-      (perm-eq (eachPair-cong (placed 0 ts) once))
+    (eachPair-swap (λ s x y. cond (eqName s (x .item .state)) (f x y) []) (stateNames ts) (placed 0 ts))
+    (perm-eq (eachPair-cong (placed 0 ts) once))
   where
     once : (x : Placed Transition) → List·Memᴰ x (placed 0 ts) → (y : Placed Transition) → each (λ s. cond (eqName s (x .item .state)) (f x y) []) (stateNames ts) ≡ f x y
     once x m y =

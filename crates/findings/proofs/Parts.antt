@@ -8,10 +8,10 @@ use lib.ListN.{length, length-map}
 use Rattle.reading.specs.Transition.{OnError, Transition}
 use Rattle.reading.specs.Module.{Module}
 use Rattle.typing.specs.Env.{forModule}
-use Rattle.findings.specs.Lists.{Placed, placed, each, eachPair}
+use Rattle.findings.specs.Lists.{Placed, placed, each}
 use Rattle.findings.specs.Finding.{Note}
 use Rattle.findings.specs.Declared.{states, allTouched}
-use Rattle.findings.specs.Pairs.{clash, ambiguous, byState}
+use Rattle.findings.specs.Pairs.{byState}
 use Rattle.findings.specs.Errors.{isEmpty, opening, judgedNotes, own, errorEmitNotes, onErrorNotes, claims, closing, errors}
 use Rattle.findings.specs.Warnings.{unreachable, dead, unused, impossible, warnings}
 use Rattle.findings.specs.Demand.{Rearranged, withTransitions, renamedNote}
@@ -51,13 +51,13 @@ module _ {ρ : ℕ → ℕ} {ts us : List Transition} (r : Rearranged ρ ts us) 
       let moved = map-eachPair (renamedNote ρ) f (placed 0 ts) ∙ eachPair-cong (placed 0 ts) (λ x _. s .renames ρ x) ∙ sym (eachPair-map g (move ρ) (placed 0 ts)) in
       record {
         perm =
-          List·Permᴰ·trans
+            List·Permᴰ·trans
             (perm-map (renamedNote ρ) (byState-perm f ts))
             (List·Permᴰ·trans
-              (perm-eq moved)
-              (List·Permᴰ·trans
-                (perm-eachPair g (s .symmetric) (placed-perm r))
-                (List·Permᴰ·trans (perm-eq (sym (eachPair-rising f g 0 us (s .rising)))) (Permᴰ·symm (byState-perm f us)))))
+            (perm-eq moved)
+            (List·Permᴰ·trans
+            (perm-eachPair g (s .symmetric) (placed-perm r))
+            (List·Permᴰ·trans (perm-eq (sym (eachPair-rising f g 0 us (s .rising)))) (Permᴰ·symm (byState-perm f us)))));
       }
 
 module _ {ρ : ℕ → ℕ} {us : List Transition} (y : Module) (r : Rearranged ρ (y .transitions) us) where
@@ -97,5 +97,5 @@ module _ {ρ : ℕ → ℕ} {us : List Transition} (y : Module) (r : Rearranged 
   unfolding warnings
   same-warnings =
       same-append
-        (same-append (same-append (same-append same-unreachable same-dead) same-unused) (same-pairs r ambiguous-rises))
-        (same-each r impossible (impossible-moves ρ))
+      (same-append (same-append (same-append same-unreachable same-dead) same-unused) (same-pairs r ambiguous-rises))
+      (same-each r impossible (impossible-moves ρ))

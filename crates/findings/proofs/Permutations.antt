@@ -85,8 +85,8 @@ module _ {A B : Type 0} where
       perm-append (List·Permᴰ·trans (perm-each (f a) d) (perm-eq (ap (λ x. each (f x) l₂) e))) (perm-eachPair f s d)
   perm-eachPair f s (List·Permᴰ·swap {a} {b} {a′} {b′} {l} e₁ e₂) =
       List·Permᴰ·trans
-        (perm-shuffle (f a b) (each (f a) l) (each (f b) l) (eachPair f l))
-        (perm-eq (ap₂ _++_ (ap₂ _++_ (s a b ∙ ap₂ f e₂ e₁) (ap (λ x. each (f x) l) e₂)) (ap (λ x. each (f x) l ++ eachPair f l) e₁)))
+      (perm-shuffle (f a b) (each (f a) l) (each (f b) l) (eachPair f l))
+      (perm-eq (ap₂ _++_ (ap₂ _++_ (s a b ∙ ap₂ f e₂ e₁) (ap (λ x. each (f x) l) e₂)) (ap (λ x. each (f x) l ++ eachPair f l) e₁)))
   perm-eachPair f s (List·Permᴰ·trans d₁ d₂) = List·Permᴰ·trans (perm-eachPair f s d₁) (perm-eachPair f s d₂)
 
   -- two lists for each element: one after another, or first all the one and then all the other
@@ -106,5 +106,5 @@ module _ {A B C : Type 0} where
   eachPair-swap f ns [] = perm-eq (each-nil ns)
   eachPair-swap f ns (x ∷ l) =
       List·Permᴰ·trans
-        (each-both (λ s. each (f s x) l) (λ s. eachPair (f s) l) ns)
-        (perm-append (each-swap (λ s. f s x) ns l) (eachPair-swap f ns l))
+      (each-both (λ s. each (f s x) l) (λ s. eachPair (f s) l) ns)
+      (perm-append (each-swap (λ s. f s x) ns l) (eachPair-swap f ns l))

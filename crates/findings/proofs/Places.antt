@@ -3,7 +3,7 @@
 use Prim.Native.Nat.{ℕ, zero, suc, _+_, _≤_, _<_}
 use mathlib.Core.Path.{_≡_, refl, sym, ap, ap₂, _∙_}
 use mathlib.Core.Logic.{_⊎_, inl, inr}
-use mathlib.Core.Option.{Option, none, some}
+use mathlib.Core.Option.{none, some}
 use mathlib.Core.List.{List, [], _∷_, _++_, map, List·Memᴰ, List·Memᴰ·head, List·Memᴰ·tail, List·Memᴰ·cases-cons, List·Memᴰ·not-nil, Memᴰ·cast}
 use mathlib.Core.List.{List·Permᴰ, List·Permᴰ·nil, List·Permᴰ·cons, List·Permᴰ·swap, List·Permᴰ·trans, Permᴰ·refl, Permᴰ·symm}
 use native.Mathlib.Nat.{not-suc-le-zero, add-zero, zero-add, add-suc, suc-add}
@@ -36,8 +36,8 @@ module _ {A : Type 0} where
   distinct-perm (x ∷ l) k d f h =
       let o = mem-first (f x (List·Memᴰ·head refl)) in
       List·Permᴰ·trans
-        (List·Permᴰ·cons refl (distinct-perm l (o .0) (d .1) (λ y m. other (o .0) (o .1) y m) (omega (arith, perm-length (o .1)))))
-        (Permᴰ·symm (o .1))
+      (List·Permᴰ·cons refl (distinct-perm l (o .0) (d .1) (λ y m. other (o .0) (o .1) y m) (omega (arith, perm-length (o .1)))))
+      (Permᴰ·symm (o .1))
     where
       other : (r : List A) → List·Permᴰ k (x ∷ r) → (y : A) → List·Memᴰ y l → List·Memᴰ y r
       other r p y m = go (List·Memᴰ·cases-cons (perm-mem p (f y (List·Memᴰ·tail m))))
@@ -100,9 +100,10 @@ module _ {A : Type 0} where
 
   distinct-moved : (ρ : ℕ → ℕ) (k : ℕ) (ts : List A) → ((i j : ℕ) → k ≤ i → i < j → j < k + length ts → ρ i ≡ ρ j → ⊥) → Distinct (map (move ρ) (placed k ts))
   distinct-moved ρ k [] f = tt
-  distinct-moved ρ k (t ∷ ts) f =
-      (λ m. let c = came ρ (suc k) ts (record { place = ρ k; item = t }) m in f k (suc k + c .from) (omega arith) (omega arith) (omega arith) (ap (λ z. z .place) (c .is)),
-      distinct-moved ρ (suc k) ts (λ i j h₁ h₂ h₃. f i j (omega arith) h₂ (omega arith)))
+  distinct-moved ρ k (t ∷ ts) f = (
+    λ m. let c = came ρ (suc k) ts (record { place = ρ k; item = t }) m in f k (suc k + c .from) (omega arith) (omega arith) (omega arith) (ap (λ z. z .place) (c .is)),
+    distinct-moved ρ (suc k) ts (λ i j h₁ h₂ h₃. f i j (omega arith) h₂ (omega arith)),
+  )
 
   each-rising : {B : Type 0} (f g : Placed A → List B) (k : ℕ) (ts : List A) → ((y : Placed A) → k ≤ y .place → f y ≡ g y) → each f (placed k ts) ≡ each g (placed k ts)
   each-rising f g k [] h = refl
@@ -120,11 +121,11 @@ module _ {ρ : ℕ → ℕ} {ts us : List Transition} (r : Rearranged ρ ts us) 
   pub placed-perm : List·Permᴰ (map (move ρ) (placed 0 ts)) (placed 0 us)
   placed-perm =
       distinct-perm
-        (map (move ρ) (placed 0 ts))
-        (placed 0 us)
-        (distinct-moved ρ 0 ts (λ i j h₁ h₂ h₃ e. apart i j h₂ (omega arith) e))
-        kept
-        (rw (length-map (placed 0 ts) (move ρ), length-placed 0 ts, length-placed 0 us) (omega (arith, r .as-many)))
+      (map (move ρ) (placed 0 ts))
+      (placed 0 us)
+      (distinct-moved ρ 0 ts (λ i j h₁ h₂ h₃ e. apart i j h₂ (omega arith) e))
+      kept
+      (rw (length-map (placed 0 ts) (move ρ), length-placed 0 ts, length-placed 0 us) (omega (arith, r .as-many)))
     where
       apart : (i j : ℕ) → i < j → j < length ts → ρ i ≡ ρ j → ⊥
       apart i j h l e = let q : i ≡ j = r .apart i j (omega arith) l e in omega arith

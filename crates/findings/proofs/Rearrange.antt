@@ -48,9 +48,9 @@ module _ (f : Module → List Note) where
   ofModule-here k zero (z ∷ ms) y e =
       let q : z ≡ y = cc in
       rw (add-zero, ← q)
-        (each-append _ (map (inModule k) (f z)) (noting (suc k) ms)
-        ∙ ap₂ _++_ (ofModule-named k k (f z) ∙ ap (λ b. cond b (map (inModule k) (f z)) []) (eq-eqb k k refl)) (ofModule-later k (suc k) ms (omega arith))
-        ∙ append-nil _)
+      (each-append _ (map (inModule k) (f z)) (noting (suc k) ms)
+      ∙ ap₂ _++_ (ofModule-named k k (f z) ∙ ap (λ b. cond b (map (inModule k) (f z)) []) (eq-eqb k k refl)) (ofModule-later k (suc k) ms (omega arith))
+      ∙ append-nil _)
   ofModule-here k (suc i) (z ∷ ms) y e =
       each-append _ (map (inModule k) (f z)) (noting (suc k) ms)
       ∙ ap₂ _++_ (ofModule-named (k + suc i) k (f z) ∙ ap (λ b. cond b (map (inModule k) (f z)) []) (ne-eqb k (k + suc i) (λ p. omega arith))) (rw (add-suc, ← suc-add) (ofModule-here (suc k) i ms y e))
@@ -93,7 +93,7 @@ module _ (x : Ir) (m : ℕ) (y : Module) (ρ : ℕ → ℕ) (us : List Transitio
   pub same-findings : List·Permᴰ (map (renamed ρ) (ofModule m (findings x))) (ofModule m (findings (rearranged m us x)))
   same-findings =
       rw (module-findings x m y e, module-findings (rearranged m us x) m (withTransitions us y) (inPlace-there (x .modules) m us y e), map-append)
-        (perm-append (same-inModule ρ m (same-errors y r)) (same-inModule ρ m (same-warnings y r)))
+      (perm-append (same-inModule ρ m (same-errors y r)) (same-inModule ρ m (same-warnings y r)))
 
   pub as-many-errors : length (allErrors (rearranged m us x)) ≡ length (allErrors x)
   unfolding allErrors byModule
@@ -102,7 +102,3 @@ module _ (x : Ir) (m : ℕ) (y : Module) (ρ : ℕ → ℕ) (us : List Transitio
   pub as-many-warnings : length (allWarnings (rearranged m us x)) ≡ length (allWarnings x)
   unfolding allWarnings byModule
   as-many-warnings = noting-length warnings us 0 m (x .modules) y e (same-length (same-warnings y r))
-
-  pub as-many-findings : length (findings (rearranged m us x)) ≡ length (findings x)
-  unfolding findings
-  as-many-findings = simp length-append (ap₂ _+_ as-many-errors as-many-warnings)

@@ -1,10 +1,10 @@
 -- Renaming transition places: a part that has none keeps its notes, and the notes of one transition are those of the transition at its new
 -- place.
 use Prim.Native.Nat.{ℕ, _≤_}
-use mathlib.Core.Path.{_≡_, refl, ap₂, fun-ext}
+use mathlib.Core.Path.{_≡_, refl}
 use mathlib.Core.List.{List, [], _∷_, map, map-append, List·Memᴰ, List·Memᴰ·head, List·Memᴰ·tail}
 use mathlib.Core.Option.{Option, none, some}
-use mathlib.Core.Bool.{Bool, true, false, cond, _&&_, _||_}
+use mathlib.Core.Bool.{true, false}
 use native.Mathlib.Omega.{arith}
 use lib.Dec.{leb}
 use borrow.Author.Tests.{ne-eqb, le-leb, lt-leb, leb-true}
@@ -14,7 +14,7 @@ use Rattle.reading.specs.Module.{Module}
 use Rattle.typing.specs.Causes.{Cause, Answer, is, fails, Blame}
 use Rattle.typing.specs.Env.{Env}
 use Rattle.typing.specs.Typing.{typeExpr}
-use Rattle.findings.specs.Lists.{Placed, placed, each}
+use Rattle.findings.specs.Lists.{Placed}
 use Rattle.findings.specs.Finding.{Note, caused, blamed}
 use Rattle.findings.specs.Errors.{unknownState, guardTyped, guardNotes, setNotes, emitNotes, bodyNotes, judgedNotes, own}
 use Rattle.findings.specs.Warnings.{impossibleGuard, impossible}
@@ -41,14 +41,16 @@ module _ (ρ : ℕ → ℕ) where
   Placeless s = (isPair s ≡ false) × (isOwn s ≡ false)
 
   up-to-5 : (s : ℕ) → s ≤ 5 → Placeless s
-  up-to-5 s h =
-      (rw (ne-eqb s 14 (λ e. omega arith), ne-eqb s 15 (λ e. omega arith), ne-eqb s 24 (λ e. omega arith)),
-      rw (lt-leb 6 s (omega arith), ne-eqb s 25 (λ e. omega arith), ne-eqb s 26 (λ e. omega arith)))
+  up-to-5 s h = (
+    rw (ne-eqb s 14 (λ e. omega arith), ne-eqb s 15 (λ e. omega arith), ne-eqb s 24 (λ e. omega arith)),
+    rw (lt-leb 6 s (omega arith), ne-eqb s 25 (λ e. omega arith), ne-eqb s 26 (λ e. omega arith)),
+  )
 
   from-16-to-23 : (s : ℕ) → 16 ≤ s → s ≤ 23 → Placeless s
-  from-16-to-23 s h k =
-      (rw (ne-eqb s 14 (λ e. omega arith), ne-eqb s 15 (λ e. omega arith), ne-eqb s 24 (λ e. omega arith)),
-      rw (le-leb 6 s (omega arith), lt-leb s 13 (omega arith), ne-eqb s 25 (λ e. omega arith), ne-eqb s 26 (λ e. omega arith)))
+  from-16-to-23 s h k = (
+    rw (ne-eqb s 14 (λ e. omega arith), ne-eqb s 15 (λ e. omega arith), ne-eqb s 24 (λ e. omega arith)),
+    rw (le-leb 6 s (omega arith), lt-leb s 13 (omega arith), ne-eqb s 25 (λ e. omega arith), ne-eqb s 26 (λ e. omega arith)),
+  )
 
   fixed : {low high : ℕ} {l : List Note} → Sites low high l → ((s : ℕ) → low ≤ s → s ≤ high → Placeless s) → map (renamedNote ρ) l ≡ l
   fixed {low} {high} {l} p h = go l (λ x m. p .sited x m)

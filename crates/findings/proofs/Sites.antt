@@ -16,7 +16,7 @@ use Rattle.reading.specs.Module.{Module}
 use Rattle.typing.specs.Causes.{Cause, number, Answer, is, fails, Blame}
 use Rattle.typing.specs.Env.{Env}
 use Rattle.findings.specs.Lists.{Placed, placed, each, eachPair}
-use Rattle.findings.specs.Finding.{Note, note, noted, caused, blamed}
+use Rattle.findings.specs.Finding.{Note, caused, blamed}
 use Rattle.findings.specs.Pairs.{clash, ambiguous, byState}
 use Rattle.findings.specs.Errors.{unknownState, initialNotes, versionNotes, initNotes, opening, guardTyped, guardNotes, setNotes, emitNotes, bodyNotes, judgedNotes, own, errorEmitNotes, onErrorNotes, repeatNotes, formulaNotes, closing, errors}
 use Rattle.findings.specs.Warnings.{unreachable, deadIn, dead, unused, impossibleGuard, impossible}
@@ -132,10 +132,10 @@ pub errors-sites : (m : Module) → Sites 1 20 (errors m)
 unfolding errors
 errors-sites m =
     sites-append
-      (sites-append
-        (sites-append (sites-wider refl refl (opening-sites m _)) (sites-each (own m) (placed 0 (m .transitions)) (λ x. sites-wider refl refl (own-sites m x))))
-        (sites-wider refl refl (clash-sites (m .transitions))))
-      (sites-wider refl refl (closing-sites m))
+    (sites-append
+    (sites-append (sites-wider refl refl (opening-sites m _)) (sites-each (own m) (placed 0 (m .transitions)) (λ x. sites-wider refl refl (own-sites m x))))
+    (sites-wider refl refl (clash-sites (m .transitions))))
+    (sites-wider refl refl (closing-sites m))
 
 -- ── warnings ──
 pub unreachable-sites : (vs : List Name) (s : Option Name) (ts : List Transition) → Sites 21 21 (unreachable vs s ts)

@@ -2,7 +2,7 @@
 use Prim.Native.Nat.{ℕ}
 use mathlib.Core.Path.{_≡_, refl, sym, ap, _∙_}
 use mathlib.Core.Logic.{_↔_, _⊎_, inl, inr}
-use mathlib.Core.List.{List, _∷_, _++_, map, List·Memᴰ, List·Memᴰ·head, List·Memᴰ·append-cases, List·Memᴰ·not-nil, List·Memᴰ·eq-of-singleton, Memᴰ·append-left, Memᴰ·append-right, Memᴰ·cast, Memᴰ·map, Memᴰ·of-map}
+use mathlib.Core.List.{List, _++_, map, List·Memᴰ, List·Memᴰ·head, List·Memᴰ·append-cases, List·Memᴰ·not-nil, List·Memᴰ·eq-of-singleton, Memᴰ·append-left, Memᴰ·append-right, Memᴰ·cast, Memᴰ·map, Memᴰ·of-map}
 use mathlib.Core.Option.{Option, none, some}
 use mathlib.Core.Bool.{Bool, true, false, not, true≢false}
 use native.Mathlib.Nat.{zero-add}
@@ -15,7 +15,7 @@ use Rattle.reading.specs.Transition.{Transition}
 use Rattle.reading.specs.Module.{Module, Ir}
 use Rattle.typing.specs.Names.{member}
 use Rattle.findings.specs.Lists.{Placed, placed, each}
-use Rattle.findings.specs.Finding.{Note, note, Finding, inModule, noted}
+use Rattle.findings.specs.Finding.{Note, note, inModule, noted}
 use Rattle.findings.specs.Declared.{states}
 use Rattle.findings.specs.Reach.{Leads, reached}
 use Rattle.findings.specs.Errors.{errors}
@@ -112,9 +112,9 @@ unreachable-iff vs (some s) ts v n e = (to, from)
     from r =
         let q : s ≡ r .0 = (let p = r .1 in cc) in
         mem-each
-          part
-          (rw zero-add at (mem-placed 0 v vs n e))
-          (rw (true-not _ (λ h. r .2 (rw q at (law .0 h)))) (List·Memᴰ·head refl))
+        part
+        (rw zero-add at (mem-placed 0 v vs n e))
+        (rw (true-not _ (λ h. r .2 (rw q at (law .0 h)))) (List·Memᴰ·head refl))
 
 pub unreachables : (x : Ir) (m : ℕ) (y : Module) → getElem? (x .modules) m ≡ some y → Unreachables y m (findings x)
 unreachables x m y e v n h =
