@@ -35,23 +35,23 @@ map-blamed r f (some b) = refl
 
 ruleset inward = (map-append, map-cond, map-each, map-caused, map-blamed)
 
+-- neither the site of a pair nor of one transition
+abbrev Placeless : ℕ → Type 0
+Placeless s = (isPair s ≡ false) × (isOwn s ≡ false)
+
+up-to-5 : (s : ℕ) → s ≤ 5 → Placeless s
+up-to-5 s h = (
+  rw (ne-eqb s 14 (λ e. omega arith), ne-eqb s 15 (λ e. omega arith), ne-eqb s 24 (λ e. omega arith)),
+  rw (lt-leb 6 s (omega arith), ne-eqb s 25 (λ e. omega arith), ne-eqb s 26 (λ e. omega arith)),
+)
+
+from-16-to-23 : (s : ℕ) → 16 ≤ s → s ≤ 23 → Placeless s
+from-16-to-23 s h k = (
+  rw (ne-eqb s 14 (λ e. omega arith), ne-eqb s 15 (λ e. omega arith), ne-eqb s 24 (λ e. omega arith)),
+  rw (le-leb 6 s (omega arith), lt-leb s 13 (omega arith), ne-eqb s 25 (λ e. omega arith), ne-eqb s 26 (λ e. omega arith)),
+)
+
 module _ (ρ : ℕ → ℕ) where
-  -- neither the site of a pair nor of one transition
-  abbrev Placeless : ℕ → Type 0
-  Placeless s = (isPair s ≡ false) × (isOwn s ≡ false)
-
-  up-to-5 : (s : ℕ) → s ≤ 5 → Placeless s
-  up-to-5 s h = (
-    rw (ne-eqb s 14 (λ e. omega arith), ne-eqb s 15 (λ e. omega arith), ne-eqb s 24 (λ e. omega arith)),
-    rw (lt-leb 6 s (omega arith), ne-eqb s 25 (λ e. omega arith), ne-eqb s 26 (λ e. omega arith)),
-  )
-
-  from-16-to-23 : (s : ℕ) → 16 ≤ s → s ≤ 23 → Placeless s
-  from-16-to-23 s h k = (
-    rw (ne-eqb s 14 (λ e. omega arith), ne-eqb s 15 (λ e. omega arith), ne-eqb s 24 (λ e. omega arith)),
-    rw (le-leb 6 s (omega arith), lt-leb s 13 (omega arith), ne-eqb s 25 (λ e. omega arith), ne-eqb s 26 (λ e. omega arith)),
-  )
-
   fixed : {low high : ℕ} {l : List Note} → Sites low high l → ((s : ℕ) → low ≤ s → s ≤ high → Placeless s) → map (renamedNote ρ) l ≡ l
   fixed {low} {high} {l} p h = go l (λ x m. p .sited x m)
     where
