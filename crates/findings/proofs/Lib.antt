@@ -3,6 +3,7 @@ pub mod SheetLaws
 pub mod NoteLaws
 pub mod RowLaws
 pub mod EachLaws
+pub mod SceneLaws
 pub mod ListLaws
 pub mod Permutations
 pub mod Places

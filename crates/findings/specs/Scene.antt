@@ -3,7 +3,7 @@ use Prim.Native.Nat.{ℕ, zero, suc, _+_, _*_}
 use mathlib.Core.Path.{_≡_}
 use mathlib.Core.List.{List, [], _∷_, _++_}
 use mathlib.Core.Option.{some}
-use lib.ListN.{getD, getElem?}
+use lib.ListN.{length, getD, getElem?}
 use lib.Seq.{sets}
 use Rattle.reading.specs.Read.{Read, Reader, ok, refused}
 use Rattle.reading.specs.Limits.{maxU32, maxList}
@@ -13,7 +13,7 @@ use Rattle.reading.specs.Combine.{listOf, optional}
 use Rattle.reading.specs.Decl.{readNames, readEnumDecl, readConstructorGroup, readVarDecl}
 use Rattle.reading.specs.Pattern.{readPattern}
 use Rattle.reading.specs.Transition.{Transition, readTopExpr, readOutputExpr, readAssignment, readOnError, readTransition}
-use Rattle.reading.specs.Module.{Module, readProperty}
+use Rattle.reading.specs.Module.{Module, readProperty, readModule}
 use Rattle.typing.specs.Table.{afterItem, afterHead}
 use Rattle.findings.specs.declared.rows.Listed.{Listed}
 use Rattle.typing.specs.declared.table.Found.{Found}
@@ -97,3 +97,13 @@ pub record Scene (s places : List ℕ) (m : Module) : Type 0 where
 pub data StatesAt (s : List ℕ) : Found → List Name → Type 0 where
   states-here : {k : ℕ} {vs : List Name} → Reads readNames s k vs → StatesAt s (At k) vs
   states-none : StatesAt s Nothing []
+
+-- the tables of a module: the places of its fields and of its transitions' fields, how many transitions there are, and its end
+pub record Opened (s : List ℕ) (r : Listed) (places rows : List ℕ) (m : Module) (n : ℕ) : Type 0 where
+  pub scene : Scene s places m
+  pub rows-are : Rows s rows (m .transitions)
+  pub count : r .count ≡ length (m .transitions)
+  pub end : r .end ≡ n
+
+pub record Opens (s : List ℕ) (at : ℕ) (r : Listed) (places rows : List ℕ) : Type 0 where
+  pub of : (m : Module) (n : ℕ) → readModule s at ≡ ok m n → Opened s r places rows m n
