@@ -4,6 +4,7 @@ pub mod NoteLaws
 pub mod RowLaws
 pub mod EachLaws
 pub mod SceneLaws
+pub mod ClaimTables
 pub mod ListLaws
 pub mod Permutations
 pub mod Places

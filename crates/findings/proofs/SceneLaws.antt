@@ -185,6 +185,7 @@ module _ (s : List ℕ) (at : ℕ) (o₀ o₁ o₂ o₃ o₄ q₀ q₁ : List �
         let whole : o₄ ≡ (rowAt 8 s at ++ t ∷ l .end ∷ a ∷ []) ++ drop (0 + length (rowAt 8 s at ++ t ∷ l .end ∷ a ∷ [])) o₀ =
         rw (e₄, e₃, e₂, e₁) (sym (sets-append o₀ 0 (rowAt 8 s at) (t ∷ l .end ∷ a ∷ []) ∙ ap (λ (j : ℕ). sets (sets o₀ 0 (rowAt 8 s at)) j (t ∷ l .end ∷ a ∷ [])) (omega arith))) ∙ sets-eq (rowAt 8 s at ++ t ∷ l .end ∷ a ∷ []) o₀ 0 (omega (arith, length-append (rowAt 8 s at) (t ∷ l .end ∷ a ∷ []))) in
         record {
+          bytes = B;
           scene = rw whole (scene-is s B at m n t (l .end) a _ x u (w .end) z);
           rows-are = w .rows;
           count = w .count;

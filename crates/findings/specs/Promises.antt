@@ -1,7 +1,7 @@
 -- What the code of each part of a module's errors promises: for whatever reads there, it notes what the definition says.
-use Prim.Native.Nat.{ℕ, _+_, _*_}
+use Prim.Native.Nat.{ℕ, _+_, _*_, _≤_}
 use mathlib.Core.Path.{_≡_}
-use mathlib.Core.List.{List, map}
+use mathlib.Core.List.{List, _++_, map}
 use mathlib.Core.Bool.{Bool}
 use mathlib.Core.Option.{Option, some}
 use lib.ListN.{length, getD, getElem?, take}
@@ -13,7 +13,7 @@ use Rattle.reading.specs.Expr.{Expr}
 use Rattle.reading.specs.Decl.{EnumDecl, ConstructorGroup, VarDecl, readEnumDecl, readConstructorGroup, readVarDecl}
 use Rattle.reading.specs.Transition.{OutputExpr, Assignment, OnError, Transition, readTopExpr, readOutputExpr, readAssignment, readOnError}
 use Rattle.reading.specs.Formula.{readFormula}
-use Rattle.reading.specs.Module.{Property, Module}
+use Rattle.reading.specs.Module.{Property, Module, readProperty}
 use Rattle.reading.specs.Skip.{textAt}
 use Rattle.typing.specs.Causes.{causeWord}
 use Rattle.typing.specs.Names.{member, firstCalled, stateEnum}
@@ -26,7 +26,7 @@ use Rattle.findings.specs.Finding.{Note, note, blamed}
 use Rattle.findings.specs.Mentions.{enumName, enumVariants, states}
 use Rattle.findings.specs.Errors.{unknownState, isEmpty, initialNotes, versionNotes, initNotes, opening, guardNotes, setNotes, emitNotes, bodyNotes, own, errorEmitNotes, onErrorNotes, propertyName, repeatNotes, formulaNotes}
 use Rattle.findings.specs.Noting.{Noted}
-use Rattle.findings.specs.Scene.{Reads, RowAt, Rows, Scene, StatesAt}
+use Rattle.findings.specs.Scene.{Bytes, Reads, RowAt, Rows, Scene, StatesAt}
 
 -- an entry with its place
 abbrev pub at-place : {A : Type 0} → ℕ → A → Placed A
@@ -114,6 +114,11 @@ pub record ClaimAt (s table : List ℕ) (i : ℕ) (p : Property) : Type 0 where
 pub record Claims (s table : List ℕ) (ps : List Property) : Type 0 where
   pub room : 2 * length ps ≡ length table
   pub at : (i : ℕ) (p : Property) → getElem? ps i ≡ some p → ClaimAt s table i p
+
+-- the first words of a table are those of two lists, one after the other
+pub record ClaimsSet (s : List ℕ) (a b words : ℕ) (table : List ℕ) : Type 0 where
+  pub most : words ≤ 1020
+  pub of : (ps qs : List Property) → Bytes s → Reads (listOf maxList readProperty) s a ps → Reads (listOf maxList readProperty) s b qs → Claims s (take words table) (ps ++ qs)
 
 module _ (s : List ℕ) (owner : ℕ) (o : List ℕ) (skip n r : ℕ) (o′ : List ℕ) where
   -- site 18

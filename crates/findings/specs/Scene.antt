@@ -1,5 +1,5 @@
 -- Places of a document in tables: those of the fields of a record, and of each record of a list.
-use Prim.Native.Nat.{ℕ, zero, suc, _+_, _*_}
+use Prim.Native.Nat.{ℕ, zero, suc, _+_, _*_, _<_}
 use mathlib.Core.Path.{_≡_}
 use mathlib.Core.List.{List, [], _∷_, _++_}
 use mathlib.Core.Option.{some}
@@ -57,6 +57,10 @@ pub record RowsFilled (s : List ℕ) (at : ℕ) (table : List ℕ) (r : Listed) 
   pub words : table′ ≡ sets table 0 (rowsAt s at)
   pub of : (count first : ℕ) → readCount maxList s at ≡ ok count first → (r .count ≡ count) × (r .end ≡ rowsEnd count s first)
 
+-- each word is a byte
+abbrev pub Bytes : List ℕ → Type 0
+Bytes s = (i : ℕ) → getD s i 0 < 256
+
 -- content reads at a place
 pub record Reads {A : Type 0} (F : Reader A) (s : List ℕ) (at : ℕ) (x : A) : Type 0 where
   pub end : ℕ
@@ -100,6 +104,7 @@ pub data StatesAt (s : List ℕ) : Found → List Name → Type 0 where
 
 -- the tables of a module: the places of its fields and of its transitions' fields, how many transitions there are, and its end
 pub record Opened (s : List ℕ) (r : Listed) (places rows : List ℕ) (m : Module) (n : ℕ) : Type 0 where
+  pub bytes : Bytes s
   pub scene : Scene s places m
   pub rows-are : Rows s rows (m .transitions)
   pub count : r .count ≡ length (m .transitions)
