@@ -3,9 +3,8 @@ use Prim.Native.Nat.{ℕ}
 use mathlib.Core.Path.{_≡_, refl, ap, sym, _∙_}
 use mathlib.Core.List.{List}
 use Rattle.reading.proofs.Rules.{no}
-use Rattle.typing.specs.Causes as causes
 use Rattle.typing.specs.Causes.{Answer, is, fails, number, causeWord}
-use Rattle.typing.specs.Means.{causeOf, good, bad, typedOf, outcome}
+use Rattle.typing.specs.Means.{causeOf, bad, typedOf, outcome}
 use Rattle.typing.specs.declared.ty.Ty.{Ty}
 use Rattle.typing.specs.declared.cause.Cause.{Cause}
 use Rattle.typing.specs.declared.cause.Typed.{Typed}

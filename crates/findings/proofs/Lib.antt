@@ -4,3 +4,4 @@ pub mod NoteLaws
 pub mod RowLaws
 pub mod EachLaws
 pub mod CauseLaws
+pub mod OutputLaws

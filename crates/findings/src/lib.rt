@@ -2,5 +2,6 @@
 //
 // `specs/` says what is right, over the document's content; `proofs/` says why the code gives it.
 mod cause;
+mod output;
 mod rows;
 mod sheet;
