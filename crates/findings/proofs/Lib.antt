@@ -5,3 +5,4 @@ pub mod RowLaws
 pub mod EachLaws
 pub mod CauseLaws
 pub mod OutputLaws
+pub mod StateLaws

@@ -5,3 +5,4 @@ mod cause;
 mod output;
 mod rows;
 mod sheet;
+mod states;
