@@ -6,3 +6,6 @@ pub mod EachLaws
 pub mod CauseLaws
 pub mod OutputLaws
 pub mod StateLaws
+pub mod OptionLaws
+pub mod OpeningLaws
+pub mod OnErrorLaws
