@@ -9,3 +9,4 @@ pub mod StateLaws
 pub mod OptionLaws
 pub mod OpeningLaws
 pub mod OnErrorLaws
+pub mod ClaimLaws

@@ -1,7 +1,7 @@
 -- What the code of each part of a module's errors promises: for whatever reads there, it notes what the definition says.
 use Prim.Native.Nat.{ℕ, _+_, _*_}
 use mathlib.Core.Path.{_≡_}
-use mathlib.Core.List.{List, map}
+use mathlib.Core.List.{List, _++_, map}
 use mathlib.Core.Bool.{Bool}
 use mathlib.Core.Option.{Option, some}
 use lib.ListN.{length, getD, getElem?, take}
@@ -12,7 +12,7 @@ use Rattle.reading.specs.Combine.{listOf, optional}
 use Rattle.reading.specs.Expr.{Expr, readExpr}
 use Rattle.reading.specs.Decl.{EnumDecl, ConstructorGroup, VarDecl, readEnumDecl, readConstructorGroup, readVarDecl}
 use Rattle.reading.specs.Transition.{OutputExpr, Assignment, OnError, Transition, readTopExpr, readOutputExpr, readAssignment, readOnError}
-use Rattle.reading.specs.Formula.{readFormula}
+use Rattle.reading.specs.Formula.{Formula, readFormula}
 use Rattle.reading.specs.Module.{Property, Module}
 use Rattle.reading.specs.Skip.{textAt}
 use Rattle.typing.specs.Causes.{Answer, causeWord}
@@ -20,12 +20,13 @@ use Rattle.typing.specs.Names.{member, firstCalled, stateEnum}
 use Rattle.typing.specs.Env.{Env, given, forModule, Agree}
 use Rattle.typing.specs.Typing.{typeExpr}
 use Rattle.typing.specs.Outputs.{validateOutputExpr}
+use Rattle.typing.specs.Formulas.{typeFormula, boundedAlwaysError}
 use Rattle.typing.specs.Table.{findIn, envAt}
 use Rattle.typing.specs.Means.{typedOf, outcome}
 use Rattle.typing.specs.declared.cause.Typed.{Typed}
 use Rattle.typing.specs.declared.table.Found.{Found}
 use Rattle.findings.specs.Lists.{Placed, placed, each}
-use Rattle.findings.specs.Finding.{Note, note, caused, blamed, typeCause}
+use Rattle.findings.specs.Finding.{Note, note, noted, caused, blamed, typeCause}
 use Rattle.findings.specs.Mentions.{enumName, enumVariants, states}
 use Rattle.findings.specs.Errors.{unknownState, isEmpty, initialNotes, versionNotes, initNotes, opening, guardNotes, setNotes, emitNotes, bodyNotes, own, errorEmitNotes, onErrorNotes, propertyName, repeatNotes, formulaNotes}
 use Rattle.findings.specs.Noting.{Noted}
@@ -130,11 +131,18 @@ pub record Claims (s table : List ℕ) (ps : List Property) : Type 0 where
   pub room : 2 * length ps ≡ length table
   pub at : (i : ℕ) (p : Property) → getElem? ps i ≡ some p → ClaimAt s table i p
 
+-- whether the name of number i stands under a smaller number too
+abbrev pub earlierIn : List ℕ → List ℕ → ℕ → Bool
+earlierIn s table i = given (findIn s (textAt s (getD table (2 * i) 0)) (take (2 * i) table))
+
 module _ (s : List ℕ) (owner : ℕ) (o : List ℕ) (skip n r : ℕ) (o′ : List ℕ) where
   -- site 18
   pub record NotesRepeats (table : List ℕ) : Type 0 where
     pub of : (ps : List Property) → Claims s table ps → Noted owner o skip n (repeatNotes (map propertyName ps)) r o′
 
-  -- sites 19 and 20
+  -- sites 19 and 20: of the formula of number i, and of each
+  pub record NotesFormula (at : ℕ) (names enums : List ℕ) (i : ℕ) : Type 0 where
+    pub of : (f : Formula) (env : Env) → Reads (readFormula maxDepth) s at f → Agree (envAt s names enums) env → Noted owner o skip n (caused (λ c. note 19 i 0 c) (typeFormula env f) ++ noted (boundedAlwaysError f) (note 20 i 0 0)) r o′
+
   pub record NotesFormulas (table names enums : List ℕ) : Type 0 where
     pub of : (ps : List Property) (env : Env) → Claims s table ps → Agree (envAt s names enums) env → Noted owner o skip n (each (formulaNotes env) (placed 0 ps)) r o′

@@ -2,6 +2,7 @@
 //
 // `specs/` says what is right, over the document's content; `proofs/` says why the code gives it.
 mod cause;
+mod claims;
 mod on_error;
 mod opening;
 mod output;
