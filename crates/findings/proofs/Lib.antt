@@ -21,3 +21,10 @@ pub mod Accepted
 pub mod EveryRearrangement
 pub mod Demand
 pub mod Examples
+pub mod CauseLaws
+pub mod OutputLaws
+pub mod StateLaws
+pub mod OptionLaws
+pub mod OpeningLaws
+pub mod OnErrorLaws
+pub mod ClaimLaws

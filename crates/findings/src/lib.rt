@@ -1,6 +1,12 @@
 // Findings: what is wrong with a document, and what is doubtful in it, as words.
 //
 // `specs/` says what is right, over the document's content; `proofs/` says why the code gives it.
+mod cause;
+mod claims;
 mod module;
+mod on_error;
+mod opening;
+mod output;
 mod rows;
 mod sheet;
+mod states;

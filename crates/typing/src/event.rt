@@ -9,7 +9,7 @@ use crate::field::judge_fields;
 use crate::field::second;
 use crate::fill::after_head;
 use crate::fill::after_tag;
-use crate::first::first_group;
+use crate::first::first_record;
 use crate::first::first_variant;
 use crate::table::Found;
 use crate::table::after;
@@ -115,7 +115,7 @@ pub fn validate_event_pattern(
     ensures { λ r. ⌜ JudgesPattern (now (doc .entry)) at events (now (table .entry)) k r (now (table .exit)) ⌝ }
 {
     let name = after_head(doc, at);
-    let f = first_group(doc, events, text_at(doc, name));
+    let f = first_record(doc, events, text_at(doc, name));
     let Found::At(group) = f else {
         return alone(Cause::UnknownEventGroup(name));
     };
