@@ -28,3 +28,4 @@ pub mod OptionLaws
 pub mod OpeningLaws
 pub mod OnErrorLaws
 pub mod ClaimLaws
+pub mod ModuleLaws
