@@ -29,3 +29,4 @@ pub mod OpeningLaws
 pub mod OnErrorLaws
 pub mod ClaimLaws
 pub mod ModuleLaws
+pub mod WalkLaws

@@ -17,3 +17,5 @@ pub mod Prints
 pub mod PairPromises
 pub mod WarningPromises
 pub mod ModulePromises
+pub mod Reply
+pub mod Walks

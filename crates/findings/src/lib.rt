@@ -7,6 +7,10 @@ mod module;
 mod on_error;
 mod opening;
 mod output;
+mod reply;
 mod rows;
 mod sheet;
 mod states;
+
+pub use reply::Line;
+pub use reply::Reply;
