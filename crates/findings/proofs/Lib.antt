@@ -30,3 +30,4 @@ pub mod OnErrorLaws
 pub mod ClaimLaws
 pub mod ModuleLaws
 pub mod WalkLaws
+pub mod ReplyLaws

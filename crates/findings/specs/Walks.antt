@@ -6,12 +6,15 @@ use Rattle.reading.specs.Read.{ok}
 use Rattle.reading.specs.Limits.{maxModules}
 use Rattle.reading.specs.Combine.{listOf}
 use Rattle.reading.specs.Module.{Module, Ir, readModule, readIr}
+use Rattle.reading.specs.Document.{readDocument}
 use Rattle.findings.specs.Errors.{errors}
 use Rattle.findings.specs.Warnings.{warnings}
 use Rattle.findings.specs.Findings.{byModule, allErrors, allWarnings}
 use Rattle.findings.specs.Sheet.{Written}
 use Rattle.findings.specs.Noting.{Noted}
 use Rattle.findings.specs.Scene.{Reads}
+use Rattle.findings.specs.Reply.{replyTo, sheetOf}
+use Rattle.findings.specs.declared.reply.Reply.{Reply}
 
 -- the buffer o, skip and the next number n before; the next number r and the buffer o′ after; the second for warnings
 module _ (s o : List ℕ) (skip n r : ℕ) (o′ p : List ℕ) (leave k q : ℕ) (p′ : List ℕ) where
@@ -39,3 +42,7 @@ module _ (s o : List ℕ) (skip n r : ℕ) (o′ p : List ℕ) (leave k q : ℕ)
 
   pub record WalksAll : Type 0 where
     pub of : (x : Ir) (e : ℕ) → readIr s 0 ≡ ok x e → Walked x
+
+-- the answer to a document that reads, and the lent words afterwards
+pub record Replies (s o : List ℕ) (r : Reply) (o′ : List ℕ) : Type 0 where
+  pub of : (x : Ir) (n : ℕ) → readDocument s ≡ ok x n → (r ≡ replyTo o (ok x n)) × (o′ ≡ sheetOf o (ok x n))
