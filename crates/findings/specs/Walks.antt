@@ -13,8 +13,9 @@ use Rattle.findings.specs.Findings.{byModule, allErrors, allWarnings}
 use Rattle.findings.specs.Sheet.{Written}
 use Rattle.findings.specs.Noting.{Noted}
 use Rattle.findings.specs.Scene.{Reads}
-use Rattle.findings.specs.Reply.{replyTo, sheetOf}
+use Rattle.findings.specs.Reply.{replyTo, sheetOf, lineTo}
 use Rattle.findings.specs.declared.reply.Reply.{Reply}
+use Rattle.findings.specs.declared.reply.Line.{Line}
 
 -- the buffer o, skip and the next number n before; the next number r and the buffer o′ after; the second for warnings
 module _ (s o : List ℕ) (skip n r : ℕ) (o′ p : List ℕ) (leave k q : ℕ) (p′ : List ℕ) where
@@ -46,3 +47,7 @@ module _ (s o : List ℕ) (skip n r : ℕ) (o′ p : List ℕ) (leave k q : ℕ)
 -- the answer to a document that reads, and the lent words afterwards
 pub record Replies (s o : List ℕ) (r : Reply) (o′ : List ℕ) : Type 0 where
   pub of : (x : Ir) (n : ℕ) → readDocument s ≡ ok x n → (r ≡ replyTo o (ok x n)) × (o′ ≡ sheetOf o (ok x n))
+
+-- finding number k of a document that reads
+pub record Lines (s : List ℕ) (k : ℕ) (r : Line) : Type 0 where
+  pub of : (x : Ir) (n : ℕ) → readDocument s ≡ ok x n → r ≡ lineTo k (ok x n)
