@@ -3,3 +3,4 @@ pub mod SheetLaws
 pub mod NoteLaws
 pub mod RowLaws
 pub mod EachLaws
+pub mod GuardLaws

@@ -1,0 +1,61 @@
+-- What each step of a guard's notes gives, for whatever reads there.
+use Prim.Native.Nat.{ℕ}
+use mathlib.Core.Path.{_≡_, refl, sym, ap, _∙_}
+use mathlib.Core.List.{List, [], _∷_}
+use mathlib.Core.Bool.{Bool, true, false, not}
+use mathlib.Core.Option.{Option, none, some}
+use lib.ListN.{getD}
+use lib.Dec.{eqb}
+use borrow.Author.Tests.{eq-eqb, ne-eqb}
+use Rattle.reading.specs.Read.{ok}
+use Rattle.reading.specs.Limits.{maxDepth}
+use Rattle.reading.specs.Expr.{Expr}
+use Rattle.reading.specs.Transition.{readTopExpr}
+use Rattle.reading.specs.Views.{OptionAt, absent, present}
+use Rattle.reading.proofs.Rules.{no}
+use Rattle.reading.proofs.ListViews.{option-at}
+use Rattle.typing.specs.Causes.{number}
+use Rattle.typing.specs.Rules.{isBool}
+use Rattle.typing.specs.Env.{Env, Agree}
+use Rattle.typing.specs.Typing.{typeExpr}
+use Rattle.typing.specs.Means.{tyOf, causeOf}
+use Rattle.typing.specs.Table.{envAt}
+use Rattle.typing.specs.Typed.{Types}
+use Rattle.typing.specs.declared.ty.Ty.{Ty}
+use Rattle.typing.specs.declared.cause.Cause.{Cause}
+use Rattle.typing.specs.declared.cause.Typed.{Typed}
+use Rattle.typing.specs.declared.cause.Typed.the-variants.{Is, Fails}
+use Rattle.typing.proofs.Depends.{type-agree}
+use Rattle.typing.proofs.TypeLaws.{is-typed, is-failed}
+use Rattle.findings.specs.Finding.{Note, note, noted}
+use Rattle.findings.specs.Errors.{guardTyped, guardNotes}
+use Rattle.findings.specs.Noting.{Noted}
+use Rattle.findings.specs.Promises.{NotesGuard}
+use Rattle.findings.proofs.NoteLaws.{note-nothing, note-as}
+
+module _ (s : List ℕ) (at i : ℕ) (names enums : List ℕ) (owner : ℕ) (o : List ℕ) (skip n : ℕ) {b : Bool} (e : b ≡ eqb (getD s at 0) 246) where
+  pub guard-absent : b ≡ true → NotesGuard s owner o skip n n o at i names enums
+  unfolding guardNotes
+  guard-absent q = record { of = λ g env h a. go g env (option-at readTopExpr s at g (h .end) (h .is)) }
+    where
+      go : (g : Option Expr) (env : Env) {m : ℕ} → OptionAt readTopExpr s at g m → Noted owner o skip n (guardNotes env i g) n o
+      go none env v = note-nothing owner o skip n
+      go (some x) env (present w r) = no (let z = e ∙ ne-eqb _ _ w in cc)
+
+  module _ (q : b ≡ false) {t : Typed} (h : Types (envAt s names enums) maxDepth s at t) {r : ℕ} {o′ : List ℕ} where
+    -- by what the guard's type is
+    guard-by : (xs : List Note) → Noted owner o skip n xs r o′ → ((x : Expr) (m : ℕ) (env : Env) → readTopExpr s at ≡ ok x m → Agree (envAt s names enums) env → xs ≡ guardTyped i (typeExpr env x)) → NotesGuard s owner o skip n r o′ at i names enums
+    unfolding guardNotes
+    guard-by xs p f = record { of = λ g env w a. go g env a (option-at readTopExpr s at g (w .end) (w .is)) }
+      where
+        go : (g : Option Expr) (env : Env) {m : ℕ} → Agree (envAt s names enums) env → OptionAt readTopExpr s at g m → Noted owner o skip n (guardNotes env i g) r o′
+        go none env a (absent w v) = no (let z = e ∙ eq-eqb _ _ w in cc)
+        go (some x) env a (present w v) = note-as owner (guardTyped i (typeExpr env x)) (f x _ env v a) p
+
+    pub guard-fails : {c : Cause} {w : ℕ} → t ≡ Fails c → w ≡ number (causeOf s c) → Noted owner o skip n (note 9 i 0 w ∷ []) r o′ → NotesGuard s owner o skip n r o′ at i names enums
+    unfolding guardTyped readTopExpr
+    guard-fails z k p = guard-by _ p λ x m env v a. rw (sym (type-agree a x), is-failed (envAt s names enums) maxDepth s at h x m v z, k)
+
+    pub guard-typed : {τ : Ty} {m : ℕ} {d : Bool} → t ≡ Is τ m → d ≡ isBool (tyOf s τ) → Noted owner o skip n (noted (not d) (note 10 i 0 0)) r o′ → NotesGuard s owner o skip n r o′ at i names enums
+    unfolding guardTyped readTopExpr
+    guard-typed z k p = guard-by _ p λ x m env v a. rw (sym (type-agree a x), is-typed (envAt s names enums) maxDepth s at h x m v z .0, k)
