@@ -17,6 +17,7 @@ use Rattle.reading.specs.declared.item.Answer.{Answer}
 use Rattle.reading.specs.declared.item.Answer.the-variants.{Got, Refused}
 use Rattle.reading.proofs.Rules.{no}
 use Rattle.reading.proofs.Answers.{num, out}
+use Rattle.reading.proofs.ItemLaws.{count-kind}
 use Rattle.reading.proofs.ListViews.{list-at, rest-all, turn}
 use Rattle.findings.specs.Lists.{Placed, placed, each}
 use Rattle.findings.specs.Finding.{Note}
@@ -65,6 +66,10 @@ module _ {A : Type 0} (f : Placed A → List Note) where
 
   pub each-done : (i : ℕ) (xs : List A) {owner : ℕ} {o : List ℕ} {skip n : ℕ} {all : List Note} {r : ℕ} {o′ : List ℕ} → length xs ≤ i → Left owner o skip n all r o′ (eachFrom i xs) → Noted owner o skip n all r o′
   each-done i xs {owner} {o} {skip} {n} {all} h l = left-none owner o skip n all l (ap (λ (ys : List A). each f (placed i ys)) (drop-of-length-le xs h))
+
+-- a list has at most as many entries as the limit
+pub few : (s : List ℕ) (limit at : ℕ) {a : Answer} {count : ℕ} {c : Cursor} → a ≡ answer (readCount limit s at) → a ≡ Got count c → count ≤ limit
+few s limit at {count} {c} e q = count-kind s at limit count (c .at) (num _ e q) .1
 
 -- a list that reads at a place, entry by entry: the next entry, number i, stands at k. What is noted of an entry may depend on
 -- what else is known, h.

@@ -4,3 +4,7 @@ pub mod NoteLaws
 pub mod RowLaws
 pub mod EachLaws
 pub mod GuardLaws
+pub mod CauseLaws
+pub mod OutputLaws
+pub mod SetLaws
+pub mod EmitLaws

@@ -15,14 +15,16 @@ use Rattle.reading.specs.Transition.{OutputExpr, Assignment, OnError, Transitio
 use Rattle.reading.specs.Formula.{readFormula}
 use Rattle.reading.specs.Module.{Property, Module}
 use Rattle.reading.specs.Skip.{textAt}
-use Rattle.typing.specs.Causes.{causeWord}
+use Rattle.typing.specs.Causes.{Answer, causeWord}
 use Rattle.typing.specs.Names.{member, firstCalled, stateEnum}
 use Rattle.typing.specs.Env.{Env, given, forModule, Agree}
 use Rattle.typing.specs.Outputs.{validateOutputExpr}
 use Rattle.typing.specs.Table.{findIn, envAt}
+use Rattle.typing.specs.Means.{typedOf, outcome}
+use Rattle.typing.specs.declared.cause.Typed.{Typed}
 use Rattle.typing.specs.declared.table.Found.{Found}
 use Rattle.findings.specs.Lists.{Placed, placed, each}
-use Rattle.findings.specs.Finding.{Note, note, blamed}
+use Rattle.findings.specs.Finding.{Note, note, blamed, typeCause}
 use Rattle.findings.specs.Mentions.{enumName, enumVariants, states}
 use Rattle.findings.specs.Errors.{unknownState, isEmpty, initialNotes, versionNotes, initNotes, opening, guardNotes, setNotes, emitNotes, bodyNotes, own, errorEmitNotes, onErrorNotes, propertyName, repeatNotes, formulaNotes}
 use Rattle.findings.specs.Noting.{Noted}
@@ -49,6 +51,10 @@ pub record IsState (s : List ℕ) (found : Found) (at : ℕ) (r : Bool) : Type 0
 
 pub record NoStates (s : List ℕ) (found : Found) (r : Bool) : Type 0 where
   pub of : (vs : List Name) → StatesAt s found vs → r ≡ isEmpty vs
+
+-- the number of why an expression has no type: 0 where it has one
+pub record TypedNumber (s : List ℕ) (t : Typed) (r : ℕ) : Type 0 where
+  pub of : (a : Answer) (k : ℕ) → typedOf s t ≡ outcome k a → r ≡ causeWord (typeCause a)
 
 -- below, finding number n is the next one, and o the words before: r and o′ are those after
 module _ (s : List ℕ) (owner : ℕ) (o : List ℕ) (skip n r : ℕ) (o′ : List ℕ) where
