@@ -23,4 +23,6 @@ pub mod Arguments
 pub mod Entries
 pub mod Emits
 pub mod Blames
+pub mod Fields
+pub mod Event
 pub mod Holds
