@@ -6,5 +6,6 @@ pub mod EachLaws
 pub mod GuardLaws
 pub mod CauseLaws
 pub mod OutputLaws
+pub mod StateLaws
 pub mod SetLaws
 pub mod EmitLaws

@@ -8,3 +8,4 @@ mod output;
 mod rows;
 mod sets;
 mod sheet;
+mod states;

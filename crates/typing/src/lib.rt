@@ -37,7 +37,7 @@ pub use expr::type_expr;
 pub use fill::after_head;
 pub use fill::fill_table;
 pub use fill::store;
-pub use first::first_group;
+pub use first::first_record;
 pub use first::first_variant;
 pub use formula::after_formula;
 pub use formula::bounded_always_error;
