@@ -2,7 +2,7 @@
 use Prim.Native.Nat.{ℕ, zero, suc, _+_, _<_, _≤_}
 use mathlib.Core.Path.{_≡_, refl, sym, ap, subst, _∙_}
 use mathlib.Core.List.{List, [], _∷_, _++_, append-assoc, append-nil}
-use mathlib.Core.Option.{Option, some}
+use mathlib.Core.Option.{some}
 use native.Mathlib.Omega.{arith}
 use native.Mathlib.Numerals.{add-one}
 use lib.ListN.{length, drop, getElem?, drop-of-length-le}
@@ -46,6 +46,12 @@ module _ (owner : ℕ) (o : List ℕ) (skip n : ℕ) (all : List Note) where
 
     pub left-none : rest ≡ [] → Noted owner o skip n all r o′
     left-none e = note-as owner all (sym (l .split ∙ ap (λ (x : List Note). l .made ++ x) e ∙ append-nil (l .made))) (l .noted)
+
+-- there is an entry of each number
+pub get-some : {A : Type 0} (xs : List A) (i : ℕ) → i < length xs → (x : A) × (getElem? xs i ≡ some x)
+get-some [] i h = absurd (omega arith)
+get-some (y ∷ xs) zero h = (y, refl)
+get-some (y ∷ xs) (suc i) h = get-some xs i (omega arith)
 
 -- the notes of the entries from number i on
 module _ {A : Type 0} (f : Placed A → List Note) where

@@ -9,3 +9,4 @@ pub mod OutputLaws
 pub mod StateLaws
 pub mod SetLaws
 pub mod EmitLaws
+pub mod TransitionLaws

@@ -9,3 +9,4 @@ mod rows;
 mod sets;
 mod sheet;
 mod states;
+mod transition;
