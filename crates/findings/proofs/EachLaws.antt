@@ -47,7 +47,6 @@ module _ (owner : ℕ) (o : List ℕ) (skip n : ℕ) (all : List Note) where
     pub left-none : rest ≡ [] → Noted owner o skip n all r o′
     left-none e = note-as owner all (sym (l .split ∙ ap (λ (x : List Note). l .made ++ x) e ∙ append-nil (l .made))) (l .noted)
 
--- there is an entry of each number
 pub get-some : {A : Type 0} (xs : List A) (i : ℕ) → i < length xs → (x : A) × (getElem? xs i ≡ some x)
 get-some [] i h = absurd (omega arith)
 get-some (y ∷ xs) zero h = (y, refl)
@@ -73,9 +72,9 @@ module _ {A : Type 0} (f : Placed A → List Note) where
   pub each-done : (i : ℕ) (xs : List A) {owner : ℕ} {o : List ℕ} {skip n : ℕ} {all : List Note} {r : ℕ} {o′ : List ℕ} → length xs ≤ i → Left owner o skip n all r o′ (eachFrom i xs) → Noted owner o skip n all r o′
   each-done i xs {owner} {o} {skip} {n} {all} h l = left-none owner o skip n all l (ap (λ (ys : List A). each f (placed i ys)) (drop-of-length-le xs h))
 
--- a list has at most as many entries as the limit
-pub few : (s : List ℕ) (limit at : ℕ) {a : Answer} {count : ℕ} {c : Cursor} → a ≡ answer (readCount limit s at) → a ≡ Got count c → count ≤ limit
-few s limit at {count} {c} e q = count-kind s at limit count (c .at) (num _ e q) .1
+-- a list has no more entries than are allowed
+pub walk-few : (s : List ℕ) (limit at : ℕ) {a : Answer} {count : ℕ} {c : Cursor} → a ≡ answer (readCount limit s at) → a ≡ Got count c → count ≤ limit
+walk-few s limit at {count = count} {c = c} e q = count-kind s at limit count (c .at) (num _ e q) .1
 
 -- a list that reads at a place, entry by entry: the next entry, number i, stands at k. What is noted of an entry may depend on
 -- what else is known, h.
@@ -130,3 +129,18 @@ module _ {A H : Type 0} (F : Reader A) (f : H → Placed A → List Note) (s : L
         let v = w .of h xs g in
         let m = v .as-many in
         each-done (f h) i xs (omega arith) (v .left)
+
+-- a list whose entries are reached by number: of what is known, h, the list is xs h
+module _ {A H : Type 0} (xs : H → List A) (f : H → Placed A → List Note) (owner : ℕ) (o : List ℕ) (skip n : ℕ) where
+  pub record Counting (i r : ℕ) (o′ : List ℕ) : Type 0 where
+    pub of : (h : H) → Left owner o skip n (each (f h) (placed 0 (xs h))) r o′ (eachFrom (f h) i (xs h))
+
+  pub count-start : Counting 0 n o
+  count-start = record { of = λ h. left-all owner o skip n (each (f h) (placed 0 (xs h))) }
+
+  module _ {i r : ℕ} {o′ : List ℕ} (w : Counting i r o′) where
+    pub count-more : {r′ : ℕ} {o″ : List ℕ} → ((h : H) → i < length (xs h)) → ((h : H) (x : A) → getElem? (xs h) i ≡ some x → Noted owner o′ skip r (f h (at-place i x)) r′ o″) → Counting (i + 1) r′ o″
+    count-more b p = record { of = λ h. let g = get-some (xs h) i (b h) in each-turn (f h) i (xs h) (g .0) (g .1) (w .of h) (p h (g .0) (g .1)) }
+
+    pub count-done : (h : H) → length (xs h) ≤ i → Noted owner o skip n (each (f h) (placed 0 (xs h))) r o′
+    count-done h b = each-done (f h) i (xs h) b (w .of h)

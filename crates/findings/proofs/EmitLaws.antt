@@ -7,10 +7,9 @@ use Rattle.reading.specs.Item.{readCount}
 use Rattle.reading.specs.Decl.{ConstructorGroup}
 use Rattle.reading.specs.Transition.{OutputExpr, readOutputExpr}
 use Rattle.reading.specs.Link.{answer}
-use Rattle.reading.specs.declared.cursor.Cursor.{Cursor}
 use Rattle.reading.specs.declared.fault.Fault.{Fault}
 use Rattle.reading.specs.declared.item.Answer.{Answer}
-use Rattle.reading.specs.declared.item.Answer.the-variants.{Got, Refused}
+use Rattle.reading.specs.declared.item.Answer.the-variants.{Refused}
 use Rattle.reading.proofs.TransitionLaws.{output-expr-laws}
 use Rattle.typing.specs.Env.{Env, Agree}
 use Rattle.typing.specs.Table.{envAt, Past}
@@ -19,7 +18,7 @@ use Rattle.findings.specs.Lists.{Placed}
 use Rattle.findings.specs.Finding.{Note}
 use Rattle.findings.specs.Errors.{emitNotes}
 use Rattle.findings.specs.Promises.{Groups, NotesOutput, NotesEmits}
-use Rattle.findings.proofs.EachLaws.{Walking, walk-start, walk-refused, walk-more, walk-done}
+use Rattle.findings.proofs.EachLaws.{Walking, walk-refused, walk-more, walk-done}
 
 -- what is known where the outputs are judged
 pub record Emitting (s : List ℕ) (outputs : ℕ) (names enums : List ℕ) : Type 0 where
@@ -38,9 +37,6 @@ module _ (s : List ℕ) (at i outputs : ℕ) (names enums : List ℕ) (owner : �
   module _ {a : Answer} (e : a ≡ answer (readCount maxList s at)) where
     pub emits-refused : {t : Fault} {p : ℕ} → a ≡ Refused t p → NotesEmits s owner o skip n n o at i outputs names enums
     emits-refused q = record { of = λ xs gs env g d y. walk-refused readOutputExpr emitting s maxList at owner o skip n e q xs g }
-
-    pub emits-start : {count : ℕ} {c : Cursor} → a ≡ Got count c → Emits count (c .at) 0 n o
-    emits-start q = walk-start readOutputExpr emitting s maxList at owner o skip n e q
 
   module _ {count k j r : ℕ} {o′ : List ℕ} (w : Emits count k j r o′) where
     pub emits-more : {k′ r′ : ℕ} {o″ : List ℕ} → j < count → NotesOutput s owner o′ skip r r′ o″ k outputs names enums 13 i j → Past s k k′ → Emits count k′ (j + 1) r′ o″

@@ -1,19 +1,14 @@
 -- What each step of a guard's notes gives, for whatever reads there.
 use Prim.Native.Nat.{ℕ}
-use mathlib.Core.Path.{_≡_, sym, _∙_}
+use mathlib.Core.Path.{_≡_, sym}
 use mathlib.Core.List.{List, [], _∷_}
 use mathlib.Core.Bool.{Bool, true, false, not}
-use mathlib.Core.Option.{Option, none, some}
 use lib.ListN.{getD}
 use lib.Dec.{eqb}
-use borrow.Author.Tests.{eq-eqb, ne-eqb}
 use Rattle.reading.specs.Read.{ok}
 use Rattle.reading.specs.Limits.{maxDepth}
 use Rattle.reading.specs.Expr.{Expr}
 use Rattle.reading.specs.Transition.{readTopExpr}
-use Rattle.reading.specs.Views.{OptionAt, absent, present}
-use Rattle.reading.proofs.Rules.{no}
-use Rattle.reading.proofs.ListViews.{option-at}
 use Rattle.typing.specs.Causes.{number}
 use Rattle.typing.specs.Rules.{isBool}
 use Rattle.typing.specs.Env.{Env, Agree}
@@ -32,25 +27,22 @@ use Rattle.findings.specs.Errors.{guardTyped, guardNotes}
 use Rattle.findings.specs.Noting.{Noted}
 use Rattle.findings.specs.Promises.{NotesGuard}
 use Rattle.findings.proofs.NoteLaws.{note-nothing, note-as}
+use Rattle.findings.proofs.OptionLaws.{not-given, is-given}
 
 module _ (s : List ℕ) (at i : ℕ) (names enums : List ℕ) (owner : ℕ) (o : List ℕ) (skip n : ℕ) {b : Bool} (e : b ≡ eqb (getD s at 0) 246) where
   pub guard-absent : b ≡ true → NotesGuard s owner o skip n n o at i names enums
   unfolding guardNotes
-  guard-absent q = record { of = λ g env h a. go g env (option-at readTopExpr s at g (h .end) (h .is)) }
-    where
-      go : (g : Option Expr) (env : Env) {m : ℕ} → OptionAt readTopExpr s at g m → Noted owner o skip n (guardNotes env i g) n o
-      go none env v = note-nothing owner o skip n
-      go (some x) env (present w r) = no (let z = e ∙ ne-eqb _ _ w in cc)
+  guard-absent q = record { of = λ g env h a. rw (not-given readTopExpr s at h e q) (note-nothing owner o skip n) }
 
   module _ (q : b ≡ false) {t : Typed} (h : Types (envAt s names enums) maxDepth s at t) {r : ℕ} {o′ : List ℕ} where
     -- by what the guard's type is
     guard-by : (xs : List Note) → Noted owner o skip n xs r o′ → ((x : Expr) (m : ℕ) (env : Env) → readTopExpr s at ≡ ok x m → Agree (envAt s names enums) env → xs ≡ guardTyped i (typeExpr env x)) → NotesGuard s owner o skip n r o′ at i names enums
     unfolding guardNotes
-    guard-by xs p f = record { of = λ g env w a. go g env a (option-at readTopExpr s at g (w .end) (w .is)) }
-      where
-        go : (g : Option Expr) (env : Env) {m : ℕ} → Agree (envAt s names enums) env → OptionAt readTopExpr s at g m → Noted owner o skip n (guardNotes env i g) r o′
-        go none env a (absent w v) = no (let z = e ∙ eq-eqb _ _ w in cc)
-        go (some x) env a (present w v) = note-as owner (guardTyped i (typeExpr env x)) (f x _ env v a) p
+    guard-by xs p f = record {
+      of = λ g env w a.
+          let v = is-given readTopExpr s at w e q in
+          rw (v .is) (note-as owner (guardTyped i (typeExpr env (v .item))) (f (v .item) (v .reads .end) env (v .reads .is) a) p);
+    }
 
     pub guard-fails : {c : Cause} {w : ℕ} → t ≡ Fails c → w ≡ number (causeOf s c) → Noted owner o skip n (note 9 i 0 w ∷ []) r o′ → NotesGuard s owner o skip n r o′ at i names enums
     unfolding guardTyped readTopExpr

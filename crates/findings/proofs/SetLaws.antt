@@ -4,39 +4,32 @@ use mathlib.Core.Path.{_≡_, refl, sym, ap, _∙_}
 use mathlib.Core.List.{List, [], _∷_}
 use mathlib.Core.Bool.{Bool, true, false}
 use mathlib.Core.Option.{Option, none, some}
-use Rattle.reading.specs.Limits.{maxDepth, maxList}
+use Rattle.reading.specs.Limits.{maxList}
 use Rattle.reading.specs.Item.{readCount}
 use Rattle.reading.specs.Text.{Name}
 use Rattle.reading.specs.Transition.{Assignment, readTopExpr, readAssignment}
 use Rattle.reading.specs.Skip.{textAt}
 use Rattle.reading.specs.Link.{answer}
-use Rattle.reading.specs.declared.cursor.Cursor.{Cursor}
 use Rattle.reading.specs.declared.fault.Fault.{Fault}
 use Rattle.reading.specs.declared.item.Answer.{Answer}
-use Rattle.reading.specs.declared.item.Answer.the-variants.{Got, Refused}
+use Rattle.reading.specs.declared.item.Answer.the-variants.{Refused}
 use Rattle.reading.proofs.Rules.{no}
 use Rattle.reading.proofs.ExprLaws.{name-laws}
 use Rattle.reading.proofs.TransitionLaws.{assignment-laws}
 use Rattle.reading.proofs.Views.{assignment-at}
 use Rattle.reading.proofs.Walks.{name-text}
-use Rattle.typing.specs.Causes.{causeWord}
 use Rattle.typing.specs.Env.{Env, given, Agree}
-use Rattle.typing.specs.Typing.{typeExpr}
 use Rattle.typing.specs.Table.{afterItem, afterHead, findIn, found, envAt, Past}
-use Rattle.typing.specs.Typed.{Types}
-use Rattle.typing.specs.declared.cause.Typed.{Typed}
 use Rattle.typing.specs.declared.table.Found.{Found}
 use Rattle.typing.specs.declared.table.Found.the-variants.{At, Nothing}
-use Rattle.typing.proofs.Depends.{type-agree}
 use Rattle.typing.proofs.EnvLaws.{after-is, fields-head}
 use Rattle.findings.specs.Lists.{Placed}
-use Rattle.findings.specs.Finding.{Note, note, typeCause}
+use Rattle.findings.specs.Finding.{Note, note}
 use Rattle.findings.specs.Errors.{setNotes}
-use Rattle.findings.specs.Noting.{Noted, numbered}
+use Rattle.findings.specs.Noting.{Noted}
 use Rattle.findings.specs.Scene.{Reads}
-use Rattle.findings.specs.Promises.{Known, TypedNumber, NotesSet, NotesSets}
-use Rattle.findings.proofs.NoteLaws.{note-as, caused-numbered}
-use Rattle.findings.proofs.EachLaws.{Walking, walk-start, walk-refused, walk-more, walk-done}
+use Rattle.findings.specs.Promises.{Known, NotesTyped, NotesSet, NotesSets}
+use Rattle.findings.proofs.EachLaws.{Walking, walk-refused, walk-more, walk-done}
 
 given-nothing : (x : Option ℕ) → found x ≡ Nothing → given x ≡ false
 unfolding found given
@@ -60,14 +53,13 @@ module _ (s : List ℕ) (at i j : ℕ) (vars names enums : List ℕ) (owner : �
   unfolding setNotes
   set-unknown q p = record { of = λ a env g k z. rw (var-given s at vars false h u (given-nothing (findIn s w vars) (sym e ∙ q)) a env g z) p }
 
-  pub set-known : {x k : ℕ} {t : Typed} {c r : ℕ} {o′ : List ℕ} → f ≡ At x → Past s key k → Types (envAt s names enums) maxDepth s k t → TypedNumber s t c → Noted owner o skip n (numbered 12 i j c) r o′ → NotesSet s owner o skip n r o′ at i j vars names enums
-  unfolding setNotes readTopExpr
-  set-known {k} {c} q l m d p = record {
+  pub set-known : {x k r : ℕ} {o′ : List ℕ} → f ≡ At x → Past s key k → NotesTyped s owner o skip n r o′ k names enums 12 i j → NotesSet s owner o skip n r o′ at i j vars names enums
+  unfolding setNotes
+  set-known {k} q l p = record {
     of = λ a env g y z.
         let v = assignment-at s at a (g .end) (g .is) in
         let x : k ≡ v .value = l .is ∙ ap (afterItem s) (h ∙ fields-head 2 s at tt (v .var) (v .opens)) ∙ after-is name-laws s (l .each) (v .var) (a .var) (v .value) (v .var-is) in
-        let b : c ≡ causeWord (typeCause (typeExpr env (a .value))) = d .of (typeExpr (envAt s names enums) (a .value)) (g .end) (m .of (a .value) (g .end) (ap (readTopExpr s) x ∙ v .value-is)) ∙ ap (λ z. causeWord (typeCause z)) (type-agree y (a .value)) in
-        rw (var-given s at vars true h u (given-at (findIn s w vars) (sym e ∙ q)) a env g z) (note-as owner _ (ap (numbered 12 i j) b ∙ caused-numbered 12 i j (typeCause (typeExpr env (a .value)))) p);
+        rw (var-given s at vars true h u (given-at (findIn s w vars) (sym e ∙ q)) a env g z) (p .of (a .value) env (record { end = g .end; is = ap (readTopExpr s) x ∙ v .value-is }) y);
   }
 
 -- what is known where the assignments are judged
@@ -86,9 +78,6 @@ module _ (s : List ℕ) (at i : ℕ) (vars names enums : List ℕ) (owner : ℕ)
   module _ {a : Answer} (e : a ≡ answer (readCount maxList s at)) where
     pub sets-refused : {t : Fault} {p : ℕ} → a ≡ Refused t p → NotesSets s owner o skip n n o at i vars names enums
     sets-refused q = record { of = λ xs env g k z. walk-refused readAssignment setting s maxList at owner o skip n e q xs g }
-
-    pub sets-start : {count : ℕ} {c : Cursor} → a ≡ Got count c → Sets count (c .at) 0 n o
-    sets-start q = walk-start readAssignment setting s maxList at owner o skip n e q
 
   module _ {count k j r : ℕ} {o′ : List ℕ} (w : Sets count k j r o′) where
     pub sets-more : {k′ r′ : ℕ} {o″ : List ℕ} → j < count → NotesSet s owner o′ skip r r′ o″ k i j vars names enums → Past s k k′ → Sets count k′ (j + 1) r′ o″

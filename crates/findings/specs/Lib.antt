@@ -13,3 +13,6 @@ pub mod Sheet
 pub mod Noting
 pub mod Scene
 pub mod Promises
+pub mod Prints
+pub mod PairPromises
+pub mod WarningPromises

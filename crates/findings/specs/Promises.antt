@@ -1,5 +1,5 @@
 -- What the code of each part of a module's errors promises: for whatever reads there, it notes what the definition says.
-use Prim.Native.Nat.{ℕ, _+_, _*_}
+use Prim.Native.Nat.{ℕ, _+_, _*_, _≤_}
 use mathlib.Core.Path.{_≡_}
 use mathlib.Core.List.{List, _++_, map}
 use mathlib.Core.Bool.{Bool}
@@ -9,26 +9,28 @@ use Rattle.reading.specs.Read.{ok}
 use Rattle.reading.specs.Limits.{maxDepth, maxList}
 use Rattle.reading.specs.Text.{Name, readName, readVersion}
 use Rattle.reading.specs.Combine.{listOf, optional}
-use Rattle.reading.specs.Expr.{Expr}
+use Rattle.reading.specs.Expr.{Expr, readExpr}
 use Rattle.reading.specs.Decl.{EnumDecl, ConstructorGroup, VarDecl, readEnumDecl, readConstructorGroup, readVarDecl}
 use Rattle.reading.specs.Transition.{OutputExpr, Assignment, OnError, Transition, readTopExpr, readOutputExpr, readAssignment, readOnError}
-use Rattle.reading.specs.Formula.{readFormula}
-use Rattle.reading.specs.Module.{Property, Module}
+use Rattle.reading.specs.Formula.{Formula, readFormula}
+use Rattle.reading.specs.Module.{Property, Module, readProperty}
 use Rattle.reading.specs.Skip.{textAt}
 use Rattle.typing.specs.Causes.{Answer, causeWord}
 use Rattle.typing.specs.Names.{member, firstCalled, stateEnum}
 use Rattle.typing.specs.Env.{Env, given, forModule, Agree}
+use Rattle.typing.specs.Typing.{typeExpr}
 use Rattle.typing.specs.Outputs.{validateOutputExpr}
+use Rattle.typing.specs.Formulas.{typeFormula, boundedAlwaysError}
 use Rattle.typing.specs.Table.{findIn, envAt}
 use Rattle.typing.specs.Means.{typedOf, outcome}
 use Rattle.typing.specs.declared.cause.Typed.{Typed}
 use Rattle.typing.specs.declared.table.Found.{Found}
 use Rattle.findings.specs.Lists.{Placed, placed, each}
-use Rattle.findings.specs.Finding.{Note, note, blamed, typeCause}
+use Rattle.findings.specs.Finding.{Note, note, noted, caused, blamed, typeCause}
 use Rattle.findings.specs.Mentions.{enumName, enumVariants, states}
 use Rattle.findings.specs.Errors.{unknownState, isEmpty, initialNotes, versionNotes, initNotes, opening, guardNotes, setNotes, emitNotes, bodyNotes, own, errorEmitNotes, onErrorNotes, propertyName, repeatNotes, formulaNotes}
 use Rattle.findings.specs.Noting.{Noted, numbered}
-use Rattle.findings.specs.Scene.{Reads, RowAt, Rows, Scene, StatesAt}
+use Rattle.findings.specs.Scene.{Bytes, Reads, RowAt, Rows, Scene, StatesAt}
 
 -- an entry with its place
 abbrev pub at-place : {A : Type 0} → ℕ → A → Placed A
@@ -56,10 +58,18 @@ pub record NoStates (s : List ℕ) (found : Found) (r : Bool) : Type 0 where
 pub record TypedNumber (s : List ℕ) (t : Typed) (r : ℕ) : Type 0 where
   pub of : (a : Answer) (k : ℕ) → typedOf s t ≡ outcome k a → r ≡ causeWord (typeCause a)
 
+-- where the first value of the variable at a place stands
+pub record InitAt (s : List ℕ) (at r : ℕ) : Type 0 where
+  pub of : (v : VarDecl) (n : ℕ) → readVarDecl s at ≡ ok v n → readExpr maxDepth s r ≡ ok (v .init) n
+
 -- below, finding number n is the next one, and o the words before: r and o′ are those after
 module _ (s : List ℕ) (owner : ℕ) (o : List ℕ) (skip n r : ℕ) (o′ : List ℕ) where
   abbrev Notes : List Note → Type 0
   Notes xs = Noted owner o skip n xs r o′
+
+  -- the expression at a place, with the words that its note has
+  pub record NotesTyped (at : ℕ) (names enums : List ℕ) (site first second : ℕ) : Type 0 where
+    pub of : (e : Expr) (env : Env) → Reads readTopExpr s at e → Agree (envAt s names enums) env → Notes (caused (λ c. note site first second c) (typeCause (typeExpr env e)))
 
   -- the name at a place, where it is no State variant
   pub record NotesState (found : Found) (at site first : ℕ) : Type 0 where
@@ -129,11 +139,23 @@ pub record Claims (s table : List ℕ) (ps : List Property) : Type 0 where
   pub room : 2 * length ps ≡ length table
   pub at : (i : ℕ) (p : Property) → getElem? ps i ≡ some p → ClaimAt s table i p
 
+-- the first words of a table are those of two lists, one after the other
+pub record ClaimsSet (s : List ℕ) (a b words : ℕ) (table : List ℕ) : Type 0 where
+  pub most : words ≤ 1020
+  pub of : (ps qs : List Property) → Bytes s → Reads (listOf maxList readProperty) s a ps → Reads (listOf maxList readProperty) s b qs → Claims s (take words table) (ps ++ qs)
+
+-- whether the name of number i stands under a smaller number too
+abbrev pub earlierIn : List ℕ → List ℕ → ℕ → Bool
+earlierIn s table i = given (findIn s (textAt s (getD table (2 * i) 0)) (take (2 * i) table))
+
 module _ (s : List ℕ) (owner : ℕ) (o : List ℕ) (skip n r : ℕ) (o′ : List ℕ) where
   -- site 18
   pub record NotesRepeats (table : List ℕ) : Type 0 where
     pub of : (ps : List Property) → Claims s table ps → Noted owner o skip n (repeatNotes (map propertyName ps)) r o′
 
-  -- sites 19 and 20
+  -- sites 19 and 20: of the formula of number i, and of each
+  pub record NotesFormula (at : ℕ) (names enums : List ℕ) (i : ℕ) : Type 0 where
+    pub of : (f : Formula) (env : Env) → Reads (readFormula maxDepth) s at f → Agree (envAt s names enums) env → Noted owner o skip n (caused (λ c. note 19 i 0 c) (typeFormula env f) ++ noted (boundedAlwaysError f) (note 20 i 0 0)) r o′
+
   pub record NotesFormulas (table names enums : List ℕ) : Type 0 where
     pub of : (ps : List Property) (env : Env) → Claims s table ps → Agree (envAt s names enums) env → Noted owner o skip n (each (formulaNotes env) (placed 0 ps)) r o′

@@ -2,8 +2,12 @@
 //
 // `specs/` says what is right, over the document's content; `proofs/` says why the code gives it.
 mod cause;
+mod claims;
 mod emits;
 mod guard;
+mod module;
+mod on_error;
+mod opening;
 mod output;
 mod rows;
 mod sets;

@@ -1,7 +1,6 @@
 // What is noted of the assignments of a transition.
-use crate::cause::typed_number;
+use crate::cause::note_typed;
 use crate::sheet::emit;
-use crate::sheet::emit_cause;
 use reading::Answer;
 use reading::Cursor;
 use reading::text_at;
@@ -9,7 +8,6 @@ use typing::Found;
 use typing::after;
 use typing::after_head;
 use typing::find;
-use typing::type_expr;
 ghost use Prim.Native.Nat.{_+_, _≤_, _^_};
 ghost use Rattle.findings.specs.Promises.{NotesSet, NotesSets};
 
@@ -39,9 +37,19 @@ pub(crate) fn note_set<'a>(
         return emit(out, skip, n, owner, 11, first, second, 0);
     };
     let value = after(doc, var);
-    let t = type_expr(doc, value, 32, names, enums);
-    let cause = typed_number(doc, t);
-    emit_cause(cause, out, skip, n, owner, 12, first, second)
+    note_typed(
+        doc,
+        value,
+        names,
+        enums,
+        out,
+        skip,
+        n,
+        owner,
+        12,
+        first,
+        second,
+    )
 }
 
 // The same of each assignment of the list at a place.

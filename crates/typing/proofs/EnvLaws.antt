@@ -242,12 +242,12 @@ module _ (s : List ℕ) (B : Bytes s) where
     variants = λ w u. found-or u (findIn s w (pairsAt s enums)) ∙ ap orFalse (enums-hold u enums w (m .enums) j f) ∙ sym (has-or u (lastCalled enumName w (m .enums)));
   }
 
-first-first : {A : Type 0} (a b c : Option A) → firstOf (firstOf a b) c ≡ firstOf a (firstOf b c)
+pub first-first : {A : Type 0} (a b c : Option A) → firstOf (firstOf a b) c ≡ firstOf a (firstOf b c)
 unfolding firstOf
 first-first none b c = refl
 first-first (some a) b c = refl
 
-first-none : {A : Type 0} (a : Option A) → firstOf a none ≡ a
+pub first-none : {A : Type 0} (a : Option A) → firstOf a none ≡ a
 unfolding firstOf
 first-none none = refl
 first-none (some a) = refl

@@ -21,4 +21,7 @@ pub mod FewLaws
 pub mod ArgLaws
 pub mod EntryLaws
 pub mod EmitLaws
+pub mod ClashLaws
+pub mod EqualityLaws
+pub mod GuardLaws
 pub mod NumberLaws

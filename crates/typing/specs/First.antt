@@ -7,7 +7,7 @@ use Rattle.reading.specs.Read.{Reader, ok}
 use Rattle.reading.specs.Limits.{maxList}
 use Rattle.reading.specs.Text.{Name}
 use Rattle.reading.specs.Combine.{listOf}
-use Rattle.reading.specs.Decl.{EnumDecl, ConstructorVariant, ConstructorGroup, readEnumDecl, readConstructorVariant, readConstructorGroup}
+use Rattle.reading.specs.Decl.{EnumDecl, ConstructorGroup, readEnumDecl, readConstructorVariant, readConstructorGroup}
 use Rattle.typing.specs.Names.{firstCalled}
 use Rattle.typing.specs.Patterns.{declaredName}
 use Rattle.typing.specs.declared.table.Found.{Found}

@@ -26,3 +26,4 @@ pub mod Blames
 pub mod Fields
 pub mod Event
 pub mod Holds
+pub mod Equalities

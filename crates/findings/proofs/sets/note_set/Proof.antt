@@ -20,7 +20,5 @@ note-set-spec =
     (λ c. (search set-unknown, search note-more))
     (λ c κs. search needs)
     (λ c κs. search needs)
-    (λ c κs. search needs)
-    (λ c κs. search needs)
     (λ c. search needs)
     (λ c. (search set-known, omega arith)))

@@ -4,8 +4,8 @@ use mathlib.Core.Path.{_≡_, refl}
 use native.Mathlib.Omega.{arith}
 use borrow.Author.Needs.{needs}
 use lib.ListN.{length}
-use Rattle.findings.proofs.EachLaws.{few}
-use Rattle.findings.proofs.SetLaws.{Sets, sets-refused, sets-start, sets-more, sets-done}
+use Rattle.findings.proofs.EachLaws.{walk-start, walk-few}
+use Rattle.findings.proofs.SetLaws.{Sets, sets-refused, sets-more, sets-done}
 use Rattle.findings.proofs.sets.note_sets.Statement.{statement}
 use Rattle.findings.proofs.sets.note_sets.Tie as tie
 
@@ -16,10 +16,10 @@ abbrev μ-loop : tie.MeasureT-loop
 μ-loop doc at i vars names enums out₀ skip n owner count many k₀ j₀ next₀ out k j next = many - j
 
 cast-many : tie.Need-cast-many Inv-loop μ-loop
-cast-many c = let h : c .before .a .given .0 .0 ≤ 255 = search few in omega arith
+cast-many c = let h : c .before .a .given .0 .0 ≤ 255 = search walk-few in omega arith
 
 loop-holds : tie.Need-loop-holds Inv-loop μ-loop
-loop-holds c = (search sets-start, omega arith, search few, omega arith, refl)
+loop-holds c = (search walk-start, omega arith, search walk-few, omega arith, refl)
 
 loop-again : tie.Need-loop-again Inv-loop μ-loop
 loop-again c = (search sets-more, omega arith, omega arith, omega arith, omega arith)
