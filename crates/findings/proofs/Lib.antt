@@ -32,3 +32,5 @@ pub mod GuardLaws
 pub mod SetLaws
 pub mod EmitLaws
 pub mod TransitionLaws
+pub mod ModuleLaws
+pub mod WalkLaws

@@ -16,3 +16,6 @@ pub mod Promises
 pub mod Prints
 pub mod PairPromises
 pub mod WarningPromises
+pub mod ModulePromises
+pub mod Reply
+pub mod Walks

@@ -9,8 +9,12 @@ mod module;
 mod on_error;
 mod opening;
 mod output;
+mod reply;
 mod rows;
 mod sets;
 mod sheet;
 mod states;
 mod transition;
+
+pub use reply::Line;
+pub use reply::Reply;

@@ -189,6 +189,8 @@ pub(crate) fn note_transitions<'a>(
     requires { ⌜ 1020 ≤ length (now table) ⌝ }
     ensures { λ r. ⌜ NotesTransitions (now (doc .entry)) owner (now (out .entry)) skip n r (now (out .exit)) (now (places .entry)) (now (rows .entry)) count found (now (table .entry)) (2 * vars) (now (enums .entry)) ⌝ }
     ensures { λ r. ⌜ r ≤ n + 131070 ⌝ }
+    ensures { λ _. ⌜ length (now (table .exit)) ≡ length (now (table .entry)) ⌝ }
+    ensures { λ _. ⌜ take (2 * vars) (now (table .exit)) ≡ take (2 * vars) (now (table .entry)) ⌝ }
 {
     let mut i: u8 = 0;
     let mut next = n;

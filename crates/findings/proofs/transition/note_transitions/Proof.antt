@@ -33,4 +33,4 @@ note-transitions-spec =
     loop-again
     (λ c. omega arith)
     (λ c. omega arith)
-    (λ c. (search turns-done, omega arith)))
+    (λ c. (search turns-done, (omega arith, (omega arith, search needs)))))
