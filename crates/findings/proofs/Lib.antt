@@ -28,6 +28,10 @@ pub mod OptionLaws
 pub mod OpeningLaws
 pub mod OnErrorLaws
 pub mod ClaimLaws
+pub mod GuardLaws
+pub mod SetLaws
+pub mod EmitLaws
+pub mod TransitionLaws
 pub mod ModuleLaws
 pub mod WalkLaws
 pub mod ReplyLaws

@@ -3,14 +3,18 @@
 // `specs/` says what is right, over the document's content; `proofs/` says why the code gives it.
 mod cause;
 mod claims;
+mod emits;
+mod guard;
 mod module;
 mod on_error;
 mod opening;
 mod output;
 mod reply;
 mod rows;
+mod sets;
 mod sheet;
 mod states;
+mod transition;
 
 pub use reply::Line;
 pub use reply::Reply;

@@ -64,4 +64,5 @@ pub use table::has_name;
 pub use temporal::type_formula;
 pub use ty::Bits;
 pub use ty::Ty;
+pub use ty::is_bool;
 pub use version::is_valid_version_format;
