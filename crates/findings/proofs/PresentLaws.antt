@@ -1,6 +1,8 @@
--- Null, or what is given: an item that may be absent, by the byte that stands there; and an entry of a list by its number.
-use Prim.Native.Nat.{ℕ, zero, suc, _<_}
+-- Null, or what is given: an item that may be absent, by the byte that stands there; an entry of a list by its number; and numbers
+-- below the next one.
+use Prim.Native.Nat.{ℕ, zero, suc, _+_, _<_}
 use mathlib.Core.Path.{_≡_, refl, sym, _∙_}
+use mathlib.Core.Logic.{_⊎_, inl, inr}
 use mathlib.Core.Bool.{Bool, true, false}
 use mathlib.Core.List.{List, [], _∷_}
 use mathlib.Core.Option.{Option, none, some}
@@ -8,7 +10,7 @@ use native.Mathlib.Omega.{arith}
 use native.Mathlib.Nat.{le-of-suc-le-suc}
 use lib.ListN.{length, getD, getElem?}
 use lib.Dec.{eqb}
-use borrow.Author.Tests.{eq-eqb, ne-eqb}
+use borrow.Author.Tests.{eq-eqb, ne-eqb, eqb-true, eqb-false}
 use Rattle.reading.specs.Read.{Reader, ok}
 use Rattle.reading.specs.Combine.{optional}
 use Rattle.reading.specs.Views.{OptionAt, absent, present}
@@ -36,3 +38,11 @@ pub entry-of : {A : Type 0} (xs : List A) (i : ℕ) → i < length xs → (x : A
 entry-of [] i h = absurd (omega arith)
 entry-of (x ∷ xs) zero h = (x, refl)
 entry-of (x ∷ xs) (suc i) h = entry-of xs i (le-of-suc-le-suc h)
+
+-- the last of the numbers below the next one, or one before it
+pub last-or-before : (j k : ℕ) → j < k + 1 → (j ≡ k) ⊎ (j < k)
+last-or-before j k h = go (eqb j k) refl
+  where
+    go : (b : Bool) → eqb j k ≡ b → (j ≡ k) ⊎ (j < k)
+    go true e = inl (eqb-true j k e)
+    go false e = inr (let d = eqb-false j k e in omega arith)

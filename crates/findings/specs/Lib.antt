@@ -16,3 +16,4 @@ pub mod Promises
 pub mod Prints
 pub mod PairPromises
 pub mod WarningPromises
+pub mod Touch

@@ -4,3 +4,4 @@
 mod impossible;
 mod rows;
 mod sheet;
+mod touch;
