@@ -46,6 +46,12 @@ module _ (owner : ℕ) (o : List ℕ) (skip n : ℕ) (all : List Note) where
     pub left-none : rest ≡ [] → Noted owner o skip n all r o′
     left-none e = note-as owner all (sym (l .split ∙ ap (λ (x : List Note). l .made ++ x) e ∙ append-nil (l .made))) (l .noted)
 
+-- the entries from number i on are the entry at i and those after it
+pub drop-get : {A : Type 0} (xs : List A) (i : ℕ) (x : A) → getElem? xs i ≡ some x → drop i xs ≡ x ∷ drop (i + 1) xs
+drop-get [] i x e = no (cc)
+drop-get {A} (y ∷ xs) zero x e = let q : y ≡ x = cc in ap (λ (z : A). z ∷ xs) q
+drop-get (y ∷ xs) (suc i) x e = let q : suc (i + 1) ≡ suc i + 1 = omega arith in drop-get xs i x e ∙ ap (λ (n : ℕ). x ∷ drop n (y ∷ xs)) q
+
 -- the notes of the entries from number i on
 module _ {A : Type 0} (f : Placed A → List Note) where
   abbrev pub eachFrom : ℕ → List A → List Note
@@ -53,11 +59,6 @@ module _ {A : Type 0} (f : Placed A → List Note) where
 
   each-here : (i : ℕ) (x : A) (xs ys : List A) → ys ≡ x ∷ xs → each f (placed i ys) ≡ f (at-place i x) ++ each f (placed (i + 1) xs)
   each-here i x xs ys e = rw (e, add-one)
-
-  drop-get : (xs : List A) (i : ℕ) (x : A) → getElem? xs i ≡ some x → drop i xs ≡ x ∷ drop (i + 1) xs
-  drop-get [] i x e = no (cc)
-  drop-get (y ∷ xs) zero x e = let q : y ≡ x = cc in ap (λ (z : A). z ∷ xs) q
-  drop-get (y ∷ xs) (suc i) x e = let q : suc (i + 1) ≡ suc i + 1 = omega arith in drop-get xs i x e ∙ ap (λ (n : ℕ). x ∷ drop n (y ∷ xs)) q
 
   -- the entry by its number
   pub each-turn : (i : ℕ) (xs : List A) (x : A) {owner : ℕ} {o : List ℕ} {skip n : ℕ} {all : List Note} {r r′ : ℕ} {o′ o″ : List ℕ} → getElem? xs i ≡ some x → Left owner o skip n all r o′ (eachFrom i xs) → Noted owner o′ skip r (f (at-place i x)) r′ o″ → Left owner o skip n all r′ o″ (eachFrom (i + 1) xs)

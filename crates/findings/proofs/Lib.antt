@@ -7,3 +7,4 @@ pub mod EachLaws
 pub mod PresentLaws
 pub mod ImpossibleLaws
 pub mod TouchLaws
+pub mod MentionLaws

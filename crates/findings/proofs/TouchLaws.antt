@@ -128,8 +128,8 @@ module _ (s names : List ℕ) (w : Name) (m : List ℕ) where
         go j l (inl q) =
             let z = g .size in
             let i : getD m″ k 0 ≡ cond (eqName (varAt s names k) w) 1 (getD m k 0) =
-                v .here (omega arith)
-                ∙ ap (cond (eqName (varAt s names k) w) 1) (g .kept k (omega arith)) in
+            v .here (omega arith)
+            ∙ ap (cond (eqName (varAt s names k) w) 1) (g .kept k (omega arith)) in
             subst (λ (x : ℕ). getD m″ x 0 ≡ cond (eqName (varAt s names x) w) 1 (getD m x 0)) (sym q) i
         go j l (inr h) = v .other j (λ q. omega arith) ∙ g .done j h l
 
@@ -178,9 +178,10 @@ module _ (s : List ℕ) (at : ℕ) (names m : List ℕ) {a : Answer} (e : a ≡ 
         go (w ∷ []) n i k =
             let u = entry readName s (first .at) w [] n k in
             let v = u .rest in
-            let j : u .end ≡ n = cc in
-            (p .is ∙ after-is name-laws s (p .each) (first .at) w (u .end) (u .here) ∙ j,
-            touched-as s names (w ∷ []) (ap (λ (y : Name). y ∷ []) (t ∙ name-text s (first .at) w (u .end) (u .here))) g)
+            let j : u .end ≡ n = cc in (
+              p .is ∙ after-is name-laws s (p .each) (first .at) w (u .end) (u .here) ∙ j,
+              touched-as s names (w ∷ []) (ap (λ (y : Name). y ∷ []) (t ∙ name-text s (first .at) w (u .end) (u .here))) g,
+            )
         go (w ∷ (v ∷ ws)) n i k = absurd (omega arith)
 
 -- an expression: none stands there

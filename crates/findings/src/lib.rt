@@ -2,6 +2,7 @@
 //
 // `specs/` says what is right, over the document's content; `proofs/` says why the code gives it.
 mod impossible;
+mod mentions;
 mod rows;
 mod sheet;
 mod touch;

@@ -12,13 +12,7 @@ ghost use Rattle.findings.specs.Mentions.{soleName};
 ghost use Rattle.findings.specs.Touch.{Touched, VarTouched, Touches, TouchesExpr, TouchesUnary, TouchesBinary};
 
 // Marks variable k, whose name stands at a place, where it has the name and is not marked.
-pub(crate) fn touch_var<'a>(
-    doc: &'a [u8],
-    key: usize,
-    name: &'a [u8],
-    k: usize,
-    marks: &mut [u8],
-)
+pub(crate) fn touch_var<'a>(doc: &'a [u8], key: usize, name: &'a [u8], k: usize, marks: &mut [u8])
     ensures { λ _. ⌜ VarTouched (now (doc .entry)) key (now (name .entry)) k (now (marks .entry)) (now (marks .exit)) ⌝ }
 {
     if marks.len() <= k {
