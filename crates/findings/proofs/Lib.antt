@@ -8,3 +8,4 @@ pub mod PresentLaws
 pub mod ImpossibleLaws
 pub mod TouchLaws
 pub mod MentionLaws
+pub mod UnusedLaws

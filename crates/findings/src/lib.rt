@@ -6,3 +6,4 @@ mod mentions;
 mod rows;
 mod sheet;
 mod touch;
+mod unused;
