@@ -9,3 +9,4 @@ pub mod ImpossibleLaws
 pub mod TouchLaws
 pub mod MentionLaws
 pub mod UnusedLaws
+pub mod UseLaws

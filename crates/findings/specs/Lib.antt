@@ -17,3 +17,4 @@ pub mod Prints
 pub mod PairPromises
 pub mod WarningPromises
 pub mod Touch
+pub mod Uses

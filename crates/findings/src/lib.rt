@@ -7,3 +7,4 @@ mod rows;
 mod sheet;
 mod touch;
 mod unused;
+mod uses;
