@@ -1,4 +1,5 @@
 -- Laws that belong to no one function, from the lowest to the highest.
+pub mod Cycle
 pub mod SheetLaws
 pub mod NoteLaws
 pub mod RowLaws
@@ -35,3 +36,9 @@ pub mod TransitionLaws
 pub mod ModuleLaws
 pub mod WalkLaws
 pub mod ReplyLaws
+pub mod PresentLaws
+pub mod ImpossibleLaws
+pub mod TouchLaws
+pub mod MentionLaws
+pub mod UnusedLaws
+pub mod UseLaws

@@ -19,3 +19,5 @@ pub mod WarningPromises
 pub mod ModulePromises
 pub mod Reply
 pub mod Walks
+pub mod Touch
+pub mod Uses
