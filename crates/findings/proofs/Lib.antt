@@ -3,3 +3,5 @@ pub mod SheetLaws
 pub mod NoteLaws
 pub mod RowLaws
 pub mod EachLaws
+pub mod PrintLaws
+pub mod PairLaws

@@ -16,3 +16,5 @@ pub mod Promises
 pub mod Prints
 pub mod PairPromises
 pub mod WarningPromises
+pub mod Parts
+pub mod PairSteps

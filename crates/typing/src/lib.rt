@@ -43,6 +43,8 @@ pub use formula::bounded_always_error;
 pub use guard::Clash;
 pub use guard::contradictory_equalities;
 pub use guard::is_literal_false;
+pub use names::same;
+pub use names::same_name;
 pub use number::blame_number;
 pub use number::cause_number;
 pub use number::fit_number;
