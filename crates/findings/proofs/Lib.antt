@@ -3,5 +3,11 @@ pub mod SheetLaws
 pub mod NoteLaws
 pub mod RowLaws
 pub mod EachLaws
+pub mod PlaceLaws
 pub mod PrintLaws
 pub mod PairLaws
+pub mod PriorityLaws
+pub mod ClashLaws
+pub mod AlikeLaws
+pub mod OrderLaws
+pub mod StateLaws

@@ -1,8 +1,10 @@
 -- Two transitions by their places: equal bytes have equal prints, so that unequal prints tell them apart.
-use Prim.Native.Nat.{ℕ, suc}
+use Prim.Native.Nat.{ℕ, suc, _+_, _*_}
 use mathlib.Core.Path.{_≡_, refl, sym, ap, ap₂, _∙_}
 use mathlib.Core.List.{List}
 use mathlib.Core.Bool.{Bool, true, false, _&&_}
+use native.Mathlib.Omega.{arith}
+use lib.ListN.{getD}
 use Rattle.reading.specs.Read.{Reader, ok}
 use Rattle.reading.specs.Skip.{textAt}
 use Rattle.reading.specs.Views.{span}
@@ -47,20 +49,28 @@ spans-are s x y a b c d e p q = rw (p, q) at e
 same-items : {A : Type 0} {read : Reader A} {enc : A → List ℕ} {Within : A → Type 0} {k : ℕ} {D : List ℕ → ℕ → Type 0} (L : Laws read enc Within (suc k) D) {s : List ℕ} {a b c d : ℕ} {r : Bool} (x y : A) → SameSpan s a b c d r → read s a ≡ ok x b → read s c ≡ ok y d → r ≡ eqName (enc x) (enc y)
 same-items L {s} {a} {b} {c} {d} x y p e f = p .is ∙ ap₂ eqName (spanned L s (p .each) a x b e .0) (spanned L s (p .each) c y d f .0)
 
-module _ (s rows : List ℕ) (i j : ℕ) where
-  state-text : (k : ℕ) (t : Transition) → RowAt s rows k t → textAt s (field rows k 1) ≡ t .state
-  state-text k t a = name-text s (field rows k 1) (t .state) (field rows k 2) (a .state-is)
+-- the state of a row, as its place tells it
+pub state-text : (s rows : List ℕ) (k : ℕ) (t : Transition) → RowAt s rows k t → textAt s (field rows k 1) ≡ t .state
+state-text s rows k t a = name-text s (field rows k 1) (t .state) (field rows k 2) (a .state-is)
 
+-- the first words of two rows of prints
+pub states-differ : (i b : ℕ) (prints : List ℕ) (t u : Transition) → PrintOf prints i u → PrintOf prints b t → (getD prints (3 * i) 0 ≡ getD prints (3 * b) 0 → ⊥) → false ≡ eqName (t .state) (u .state)
+states-differ i b prints t u p q d = isn't (eqName (t .state) (u .state)) (λ e.
+    let x : 3 * i ≡ 3 * i + 0 = omega arith in
+    let y : 3 * b ≡ 3 * b + 0 = omega arith in
+    d (ap (λ (k : ℕ). getD prints k 0) x ∙ p .state-is ∙ ap (print 0) (sym (eqName-eq (t .state) (u .state) e)) ∙ sym (q .state-is) ∙ ap (λ (k : ℕ). getD prints k 0) (sym y)))
+
+module _ (s rows : List ℕ) (i j : ℕ) where
   module _ {r : Bool} (e : r ≡ eqName (textAt s (field rows i 1)) (textAt s (field rows j 1))) where
     pub states-bytes : (t u : Transition) → RowAt s rows i t → RowAt s rows j u → r ≡ eqName (t .state) (u .state)
-    states-bytes t u a b = e ∙ ap₂ eqName (state-text i t a) (state-text j u b)
+    states-bytes t u a b = e ∙ ap₂ eqName (state-text s rows i t a) (state-text s rows j u b)
 
     pub states-same : (prints : List ℕ) → SameState s rows prints i j r
     states-same prints = record { of = λ t u a b p q. states-bytes t u a b }
 
   pub leads-same : {r : Bool} (prints : List ℕ) → r ≡ eqName (textAt s (field rows i 4)) (textAt s (field rows j 1)) → LeadsTo s rows prints i j r
   leads-same prints e = record {
-    of = λ t u a b p q. e ∙ ap₂ eqName (name-text s (field rows i 4) (t .next-state) (field rows i 5) (a .next-state-is)) (state-text j u b);
+    of = λ t u a b p q. e ∙ ap₂ eqName (name-text s (field rows i 4) (t .next-state) (field rows i 5) (a .next-state-is)) (state-text s rows j u b);
   }
 
   -- unequal prints

@@ -1,5 +1,5 @@
 -- Prints: of bytes one after another, and of each transition while the table is filled.
-use Prim.Native.Nat.{ℕ, zero, suc, _+_, _-_, _*_, _%_, _^_, _<_, _≤_}
+use Prim.Native.Nat.{ℕ, suc, _+_, _-_, _*_, _%_, _^_, _<_, _≤_}
 use mathlib.Core.Path.{_≡_, refl, sym, ap, _∙_}
 use mathlib.Core.List.{List, [], _∷_}
 use mathlib.Core.Logic.{_≢_}
@@ -12,7 +12,6 @@ use lib.Seq.{sets, length-sets, take-nil, take-all, drop-cons, getD-set-same, ge
 use Rattle.reading.specs.Transition.{Transition}
 use Rattle.reading.specs.Skip.{textAt}
 use Rattle.reading.specs.Views.{span}
-use Rattle.reading.proofs.Rules as rules
 use Rattle.reading.proofs.ListViews.{spanned}
 use Rattle.reading.proofs.Walks.{name-text}
 use Rattle.reading.proofs.PatternLaws.{pattern-laws}
@@ -20,6 +19,7 @@ use Rattle.findings.specs.Scene.{field, RowAt, Rows}
 use Rattle.findings.specs.Prints.{print, PrintOf}
 use Rattle.findings.specs.Parts.{printsOf, PrintPart, PrintedRow}
 use Rattle.findings.specs.PairPromises.{Printed}
+use Rattle.findings.proofs.PlaceLaws.{entry-below}
 
 -- a part that has no bytes, one that the document ends, and one inside
 module _ (s : List ℕ) (from to : ℕ) where
@@ -136,10 +136,5 @@ module _ (s rows : List ℕ) where
 
   pub prints-done : {i count : ℕ} {prints now : List ℕ} → PrintsSoFar s rows prints i now → count ≤ i → Printed s rows count now
   prints-done {i} g h = record {
-    of = λ ts r e. record { at = λ k t q. let l = get-below ts k t q in g .at ts r k t (omega arith) q };
+    of = λ ts r e. record { at = λ k t q. let l = entry-below ts k t q in g .at ts r k t (omega arith) q };
   }
-    where
-      get-below : (ts : List Transition) (k : ℕ) (t : Transition) → getElem? ts k ≡ some t → k < length ts
-      get-below [] k t e = rules.no (cc)
-      get-below (x ∷ ts) zero t e = omega arith
-      get-below (x ∷ ts) (suc k) t e = let l = get-below ts k t e in omega arith

@@ -18,3 +18,4 @@ pub mod PairPromises
 pub mod WarningPromises
 pub mod Parts
 pub mod PairSteps
+pub mod StateSteps

@@ -1,7 +1,11 @@
 // Findings: what is wrong with a document, and what is doubtful in it, as words.
 //
 // `specs/` says what is right, over the document's content; `proofs/` says why the code gives it.
+mod by_state;
+mod clash;
+mod order;
 mod pairs;
 mod prints;
+mod priority;
 mod rows;
 mod sheet;
