@@ -19,7 +19,7 @@ use Rattle.findings.specs.Promises.{at-place}
 use Rattle.findings.specs.PairPromises.{pairNotes}
 use Rattle.findings.specs.PairSteps.{AlikeBytes, hasPair, HasAlike, NoPairs}
 use Rattle.findings.proofs.PlaceLaws.{entry-at, drop-entry}
-use Rattle.findings.proofs.PairLaws.{keys-apart}
+use Rattle.findings.proofs.PairTests.{keys-apart}
 use Rattle.findings.proofs.ClashLaws.{pair-none}
 
 any-here : {A : Type 0} (p : A → Bool) (x : A) (xs ys : List A) → ys ≡ x ∷ xs → any p ys ≡ (p x || any p xs)

@@ -5,9 +5,9 @@ pub mod RowLaws
 pub mod EachLaws
 pub mod PlaceLaws
 pub mod PrintLaws
-pub mod PairLaws
+pub mod PairTests
 pub mod PriorityLaws
 pub mod ClashLaws
 pub mod AlikeLaws
 pub mod OrderLaws
-pub mod StateLaws
+pub mod StateTurns

@@ -22,7 +22,7 @@ use Rattle.findings.specs.Scene.{field, Rows}
 use Rattle.findings.specs.Prints.{Prints}
 use Rattle.findings.specs.StateSteps.{undone, nextName, stateIn, Better, NextState, StateMarked}
 use Rattle.findings.proofs.PlaceLaws.{entry-at, entry-below, entry-past, drop-entry}
-use Rattle.findings.proofs.PairLaws.{state-text, states-bytes, states-differ}
+use Rattle.findings.proofs.PairTests.{state-text, states-bytes, states-differ}
 
 -- two names from place i on
 or-false : (a : Bool) → a ≡ (a || false)

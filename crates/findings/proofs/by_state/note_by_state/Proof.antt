@@ -4,7 +4,7 @@ use mathlib.Core.Path.{_≡_, refl}
 use native.Mathlib.Omega.{arith}
 use lib.ListN.{length}
 use borrow.Author.Needs.{needs}
-use Rattle.findings.proofs.StateLaws.{TurnsLeft, turns-start, turns-more, turns-out, turns-done}
+use Rattle.findings.proofs.StateTurns.{TurnsLeft, turns-start, turns-more, turns-out, turns-done}
 use Rattle.findings.proofs.by_state.note_by_state.Statement.{statement}
 use Rattle.findings.proofs.by_state.note_by_state.Tie as tie
 

@@ -5,7 +5,7 @@ use mathlib.Core.Logic.{⊎-elim}
 use native.Mathlib.Omega.{arith}
 use lib.ListN.{length}
 use borrow.Author.Needs.{needs}
-use Rattle.findings.proofs.StateLaws.{LaterLeft, later-start, later-more, later-skip, later-done}
+use Rattle.findings.proofs.StateTurns.{LaterLeft, later-start, later-more, later-skip, later-done}
 use Rattle.findings.proofs.by_state.note_later.Statement.{statement}
 use Rattle.findings.proofs.by_state.note_later.Tie as tie
 

@@ -1,7 +1,7 @@
 -- Where the states are the same.
 use native.Mathlib.Omega.{arith}
 use borrow.Author.Needs.{needs}
-use Rattle.findings.proofs.StateLaws.{row-same, row-other}
+use Rattle.findings.proofs.StateTurns.{row-same, row-other}
 use Rattle.findings.proofs.by_state.note_row.Statement.{statement}
 use Rattle.findings.proofs.by_state.note_row.Tie as tie
 

@@ -5,7 +5,7 @@ use mathlib.Core.Logic.{⊎-elim}
 use native.Mathlib.Omega.{arith}
 use lib.ListN.{length}
 use borrow.Author.Needs.{needs}
-use Rattle.findings.proofs.StateLaws.{StateLeft, state-start, state-more, state-skip, state-done}
+use Rattle.findings.proofs.StateTurns.{StateLeft, state-start, state-more, state-skip, state-done}
 use Rattle.findings.proofs.by_state.note_state.Statement.{statement}
 use Rattle.findings.proofs.by_state.note_state.Tie as tie
 

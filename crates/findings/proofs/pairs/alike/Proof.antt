@@ -1,6 +1,6 @@
 -- Unequal prints tell them apart.
 use borrow.Author.Needs.{needs}
-use Rattle.findings.proofs.PairLaws.{alike-apart, alike-bytes}
+use Rattle.findings.proofs.PairTests.{alike-apart, alike-bytes}
 use Rattle.findings.proofs.pairs.alike.Statement.{statement}
 use Rattle.findings.proofs.pairs.alike.Tie as tie
 

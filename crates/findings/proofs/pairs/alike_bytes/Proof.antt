@@ -1,6 +1,6 @@
 -- States first, then patterns.
 use borrow.Author.Needs.{needs}
-use Rattle.findings.proofs.PairLaws.{alike-same, alike-other}
+use Rattle.findings.proofs.PairTests.{alike-same, alike-other}
 use Rattle.findings.proofs.pairs.alike_bytes.Statement.{statement}
 use Rattle.findings.proofs.pairs.alike_bytes.Tie as tie
 

@@ -1,6 +1,6 @@
 -- Unequal prints tell them apart.
 use borrow.Author.Needs.{needs}
-use Rattle.findings.proofs.PairLaws.{leads-apart, leads-same}
+use Rattle.findings.proofs.PairTests.{leads-apart, leads-same}
 use Rattle.findings.proofs.pairs.leads_to.Statement.{statement}
 use Rattle.findings.proofs.pairs.leads_to.Tie as tie
 

@@ -1,7 +1,7 @@
 -- Where no two are alike there is nothing to note.
 use native.Mathlib.Omega.{arith}
 use borrow.Author.Needs.{needs}
-use Rattle.findings.proofs.StateLaws.{pairs-nothing}
+use Rattle.findings.proofs.StateTurns.{pairs-nothing}
 use Rattle.findings.proofs.pairs.note_pairs.Statement.{statement}
 use Rattle.findings.proofs.pairs.note_pairs.Tie as tie
 

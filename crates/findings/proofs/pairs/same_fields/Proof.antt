@@ -1,6 +1,6 @@
 -- By the places of the names.
 use borrow.Author.Needs.{needs}
-use Rattle.findings.proofs.PairLaws.{fields-are}
+use Rattle.findings.proofs.PairTests.{fields-are}
 use Rattle.findings.proofs.pairs.same_fields.Statement.{statement}
 use Rattle.findings.proofs.pairs.same_fields.Tie as tie
 

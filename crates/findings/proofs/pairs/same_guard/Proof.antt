@@ -1,6 +1,6 @@
 -- By the places of the guards.
 use borrow.Author.Needs.{needs}
-use Rattle.findings.proofs.PairLaws.{guards-same}
+use Rattle.findings.proofs.PairTests.{guards-same}
 use Rattle.findings.proofs.pairs.same_guard.Statement.{statement}
 use Rattle.findings.proofs.pairs.same_guard.Tie as tie
 

@@ -1,6 +1,6 @@
 -- By the places of the patterns.
 use borrow.Author.Needs.{needs}
-use Rattle.findings.proofs.PairLaws.{patterns-same}
+use Rattle.findings.proofs.PairTests.{patterns-same}
 use Rattle.findings.proofs.pairs.same_pattern.Statement.{statement}
 use Rattle.findings.proofs.pairs.same_pattern.Tie as tie
 

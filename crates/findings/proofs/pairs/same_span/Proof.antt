@@ -1,7 +1,7 @@
 -- By the parts that are handed out.
 use native.Mathlib.Omega.{arith}
 use borrow.Author.Needs.{needs}
-use Rattle.findings.proofs.PairLaws.{spans-are}
+use Rattle.findings.proofs.PairTests.{spans-are}
 use Rattle.findings.proofs.pairs.same_span.Statement.{statement}
 use Rattle.findings.proofs.pairs.same_span.Tie as tie
 

@@ -1,6 +1,6 @@
 -- Unequal prints tell them apart.
 use borrow.Author.Needs.{needs}
-use Rattle.findings.proofs.PairLaws.{states-apart, states-same}
+use Rattle.findings.proofs.PairTests.{states-apart, states-same}
 use Rattle.findings.proofs.pairs.same_state.Statement.{statement}
 use Rattle.findings.proofs.pairs.same_state.Tie as tie
 

@@ -27,7 +27,7 @@ use Rattle.findings.specs.StateSteps.{undone, nextName, stateIn, NextSta
 use Rattle.findings.proofs.NoteLaws.{note-nothing, note-as}
 use Rattle.findings.proofs.EachLaws.{Left, left-all, left-more, left-none, eachFrom, each-turn, each-done}
 use Rattle.findings.proofs.PlaceLaws.{entry-at, entry-past, drop-entry}
-use Rattle.findings.proofs.PairLaws.{states-bytes, states-differ, keys-apart}
+use Rattle.findings.proofs.PairTests.{states-bytes, states-differ, keys-apart}
 use Rattle.findings.proofs.ClashLaws.{pair-none}
 use Rattle.findings.proofs.AlikeLaws.{each-none, by-state-none}
 
