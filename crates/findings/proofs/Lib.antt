@@ -42,3 +42,11 @@ pub mod TouchLaws
 pub mod MentionLaws
 pub mod UnusedLaws
 pub mod UseLaws
+pub mod PlaceLaws
+pub mod PrintLaws
+pub mod PairTests
+pub mod PriorityLaws
+pub mod ClashLaws
+pub mod AlikeLaws
+pub mod OrderLaws
+pub mod StateTurns
