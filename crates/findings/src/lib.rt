@@ -6,6 +6,7 @@ mod cause;
 mod claims;
 mod clash;
 mod emits;
+mod errors;
 mod guard;
 mod impossible;
 mod mentions;
