@@ -2,7 +2,7 @@
 use Prim.Native.Nat.{ℕ, zero, suc, _+_, _<_, _≤_}
 use mathlib.Core.Path.{_≡_, refl, sym, ap, subst, _∙_}
 use mathlib.Core.List.{List, [], _∷_, _++_, append-assoc, append-nil}
-use mathlib.Core.Option.{Option, some}
+use mathlib.Core.Option.{some}
 use native.Mathlib.Omega.{arith}
 use native.Mathlib.Numerals.{add-one}
 use lib.ListN.{length, drop, getElem?, drop-of-length-le}
@@ -17,6 +17,7 @@ use Rattle.reading.specs.declared.item.Answer.{Answer}
 use Rattle.reading.specs.declared.item.Answer.the-variants.{Got, Refused}
 use Rattle.reading.proofs.Rules.{no}
 use Rattle.reading.proofs.Answers.{num, out}
+use Rattle.reading.proofs.ItemLaws.{count-kind}
 use Rattle.reading.proofs.ListViews.{list-at, rest-all, turn}
 use Rattle.findings.specs.Lists.{Placed, placed, each}
 use Rattle.findings.specs.Finding.{Note}
@@ -46,26 +47,36 @@ module _ (owner : ℕ) (o : List ℕ) (skip n : ℕ) (all : List Note) where
     pub left-none : rest ≡ [] → Noted owner o skip n all r o′
     left-none e = note-as owner all (sym (l .split ∙ ap (λ (x : List Note). l .made ++ x) e ∙ append-nil (l .made))) (l .noted)
 
+pub get-some : {A : Type 0} (xs : List A) (i : ℕ) → i < length xs → (x : A) × (getElem? xs i ≡ some x)
+get-some [] i h = absurd (omega arith)
+get-some (y ∷ xs) zero h = (y, refl)
+get-some (y ∷ xs) (suc i) h = get-some xs i (omega arith)
+
 -- the entries from number i on are the entry at i and those after it
 pub drop-get : {A : Type 0} (xs : List A) (i : ℕ) (x : A) → getElem? xs i ≡ some x → drop i xs ≡ x ∷ drop (i + 1) xs
 drop-get [] i x e = no (cc)
 drop-get {A} (y ∷ xs) zero x e = let q : y ≡ x = cc in ap (λ (z : A). z ∷ xs) q
 drop-get (y ∷ xs) (suc i) x e = let q : suc (i + 1) ≡ suc i + 1 = omega arith in drop-get xs i x e ∙ ap (λ (n : ℕ). x ∷ drop n (y ∷ xs)) q
 
--- the notes of the entries from number i on
-module _ {A : Type 0} (f : Placed A → List Note) where
-  abbrev pub eachFrom : ℕ → List A → List Note
+-- what is given of the entries from number i on
+module _ {A B : Type 0} (f : Placed A → List B) where
+  abbrev pub eachFrom : ℕ → List A → List B
   eachFrom i xs = each f (placed i (drop i xs))
 
-  each-here : (i : ℕ) (x : A) (xs ys : List A) → ys ≡ x ∷ xs → each f (placed i ys) ≡ f (at-place i x) ++ each f (placed (i + 1) xs)
+  pub each-here : (i : ℕ) (x : A) (xs ys : List A) → ys ≡ x ∷ xs → each f (placed i ys) ≡ f (at-place i x) ++ each f (placed (i + 1) xs)
   each-here i x xs ys e = rw (e, add-one)
 
+module _ {A : Type 0} (f : Placed A → List Note) where
   -- the entry by its number
-  pub each-turn : (i : ℕ) (xs : List A) (x : A) {owner : ℕ} {o : List ℕ} {skip n : ℕ} {all : List Note} {r r′ : ℕ} {o′ o″ : List ℕ} → getElem? xs i ≡ some x → Left owner o skip n all r o′ (eachFrom i xs) → Noted owner o′ skip r (f (at-place i x)) r′ o″ → Left owner o skip n all r′ o″ (eachFrom (i + 1) xs)
-  each-turn i xs x {owner} {o} {skip} {n} {all} e l p = left-more owner o skip n all l (f (at-place i x)) (each-here i x (drop (i + 1) xs) (drop i xs) (drop-get xs i x e)) p
+  pub each-turn : (i : ℕ) (xs : List A) (x : A) {owner : ℕ} {o : List ℕ} {skip n : ℕ} {all : List Note} {r r′ : ℕ} {o′ o″ : List ℕ} → getElem? xs i ≡ some x → Left owner o skip n all r o′ (eachFrom f i xs) → Noted owner o′ skip r (f (at-place i x)) r′ o″ → Left owner o skip n all r′ o″ (eachFrom f (i + 1) xs)
+  each-turn i xs x {owner} {o} {skip} {n} {all} e l p = left-more owner o skip n all l (f (at-place i x)) (each-here f i x (drop (i + 1) xs) (drop i xs) (drop-get xs i x e)) p
 
-  pub each-done : (i : ℕ) (xs : List A) {owner : ℕ} {o : List ℕ} {skip n : ℕ} {all : List Note} {r : ℕ} {o′ : List ℕ} → length xs ≤ i → Left owner o skip n all r o′ (eachFrom i xs) → Noted owner o skip n all r o′
+  pub each-done : (i : ℕ) (xs : List A) {owner : ℕ} {o : List ℕ} {skip n : ℕ} {all : List Note} {r : ℕ} {o′ : List ℕ} → length xs ≤ i → Left owner o skip n all r o′ (eachFrom f i xs) → Noted owner o skip n all r o′
   each-done i xs {owner} {o} {skip} {n} {all} h l = left-none owner o skip n all l (ap (λ (ys : List A). each f (placed i ys)) (drop-of-length-le xs h))
+
+-- a list has no more entries than are allowed
+pub walk-few : (s : List ℕ) (limit at : ℕ) {a : Answer} {count : ℕ} {c : Cursor} → a ≡ answer (readCount limit s at) → a ≡ Got count c → count ≤ limit
+walk-few s limit at {count = count} {c = c} e q = count-kind s at limit count (c .at) (num _ e q) .1
 
 -- a list that reads at a place, entry by entry: the next entry, number i, stands at k. What is noted of an entry may depend on
 -- what else is known, h.
@@ -120,3 +131,18 @@ module _ {A H : Type 0} (F : Reader A) (f : H → Placed A → List Note) (s : L
         let v = w .of h xs g in
         let m = v .as-many in
         each-done (f h) i xs (omega arith) (v .left)
+
+-- a list whose entries are reached by number: of what is known, h, the list is xs h
+module _ {A H : Type 0} (xs : H → List A) (f : H → Placed A → List Note) (owner : ℕ) (o : List ℕ) (skip n : ℕ) where
+  pub record Counting (i r : ℕ) (o′ : List ℕ) : Type 0 where
+    pub of : (h : H) → Left owner o skip n (each (f h) (placed 0 (xs h))) r o′ (eachFrom (f h) i (xs h))
+
+  pub count-start : Counting 0 n o
+  count-start = record { of = λ h. left-all owner o skip n (each (f h) (placed 0 (xs h))) }
+
+  module _ {i r : ℕ} {o′ : List ℕ} (w : Counting i r o′) where
+    pub count-more : {r′ : ℕ} {o″ : List ℕ} → ((h : H) → i < length (xs h)) → ((h : H) (x : A) → getElem? (xs h) i ≡ some x → Noted owner o′ skip r (f h (at-place i x)) r′ o″) → Counting (i + 1) r′ o″
+    count-more b p = record { of = λ h. let g = get-some (xs h) i (b h) in each-turn (f h) i (xs h) (g .0) (g .1) (w .of h) (p h (g .0) (g .1)) }
+
+    pub count-done : (h : H) → length (xs h) ≤ i → Noted owner o skip n (each (f h) (placed 0 (xs h))) r o′
+    count-done h b = each-done (f h) i (xs h) b (w .of h)

@@ -59,12 +59,12 @@ module _ (s : List ℕ) (fields at : ℕ) (table : List ℕ) (j : ℕ) where
 pub past-end : (l : List ℕ) (n : ℕ) → length l ≤ n → 0 ≡ getD l n 0
 past-end l n h = sym (List·getD-eq-default l 0 h)
 
-row-length : (f : ℕ) (s : List ℕ) (k : ℕ) → length (rowFrom f s k) ≡ f
+pub row-length : (f : ℕ) (s : List ℕ) (k : ℕ) → length (rowFrom f s k) ≡ f
 unfolding rowFrom
 row-length zero s k = refl
 row-length (suc f) s k = ap suc (row-length f s (afterItem s k))
 
-sets-append : (o : List ℕ) (j : ℕ) (xs ys : List ℕ) → sets o j (xs ++ ys) ≡ sets (sets o j xs) (j + length xs) ys
+pub sets-append : (o : List ℕ) (j : ℕ) (xs ys : List ℕ) → sets o j (xs ++ ys) ≡ sets (sets o j xs) (j + length xs) ys
 sets-append o j [] ys = ap (λ (n : ℕ). sets o n ys) (omega arith)
 sets-append o j (x ∷ xs) ys = sets-append (set o j x) (suc j) xs ys ∙ ap (λ (n : ℕ). sets (sets (set o j x) (suc j) xs) n ys) (omega arith)
 

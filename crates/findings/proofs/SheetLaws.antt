@@ -9,7 +9,7 @@ use lib.ListN.{length, getD, drop, length-append, length-drop, drop-of-length-le
 use lib.Seq.{sets, sets-eq, length-sets, take-at, drop-append-add, drop-drop}
 use lib.Dec.{leb}
 use borrow.Author.Tests.{le-leb, lt-leb}
-use Rattle.findings.specs.Finding.{Note, note, Finding, inModule, words, noted}
+use Rattle.findings.specs.Finding.{note, Finding, inModule, words}
 use Rattle.findings.specs.Sheet.{putOne, put, Written, flat}
 
 pub length-cond : (b : Bool) (x y o : List ℕ) → length x ≡ length o → length y ≡ length o → length (cond b x y) ≡ length o
@@ -142,7 +142,7 @@ put-after [] o k n e h = refl
 put-after (f ∷ fs) o k n e h =
     ap (λ (x : List ℕ). put x k (suc n) fs) (putOne-full o k n f (omega arith)) ∙ put-after fs o k (suc n) e (omega arith)
 
-pub none : Finding
+abbrev pub none : Finding
 none = inModule 0 (note 0 0 0 0)
 
 five : (o ws : List ℕ) → length o ≡ 5 → length ws ≡ 5 → sets o 0 ws ≡ ws

@@ -1,7 +1,7 @@
 -- What the code of each part of a module's errors promises: for whatever reads there, it notes what the definition says.
-use Prim.Native.Nat.{ℕ, _+_, _*_}
+use Prim.Native.Nat.{ℕ, _+_, _*_, _≤_}
 use mathlib.Core.Path.{_≡_}
-use mathlib.Core.List.{List, map}
+use mathlib.Core.List.{List, _++_, map}
 use mathlib.Core.Bool.{Bool}
 use mathlib.Core.Option.{Option, some}
 use lib.ListN.{length, getD, getElem?, take}
@@ -9,24 +9,28 @@ use Rattle.reading.specs.Read.{ok}
 use Rattle.reading.specs.Limits.{maxDepth, maxList}
 use Rattle.reading.specs.Text.{Name, readName, readVersion}
 use Rattle.reading.specs.Combine.{listOf, optional}
-use Rattle.reading.specs.Expr.{Expr}
+use Rattle.reading.specs.Expr.{Expr, readExpr}
 use Rattle.reading.specs.Decl.{EnumDecl, ConstructorGroup, VarDecl, readEnumDecl, readConstructorGroup, readVarDecl}
 use Rattle.reading.specs.Transition.{OutputExpr, Assignment, OnError, Transition, readTopExpr, readOutputExpr, readAssignment, readOnError}
-use Rattle.reading.specs.Formula.{readFormula}
-use Rattle.reading.specs.Module.{Property, Module}
+use Rattle.reading.specs.Formula.{Formula, readFormula}
+use Rattle.reading.specs.Module.{Property, Module, readProperty}
 use Rattle.reading.specs.Skip.{textAt}
-use Rattle.typing.specs.Causes.{causeWord}
+use Rattle.typing.specs.Causes.{Answer, causeWord}
 use Rattle.typing.specs.Names.{member, firstCalled, stateEnum}
 use Rattle.typing.specs.Env.{Env, given, forModule, Agree}
+use Rattle.typing.specs.Typing.{typeExpr}
 use Rattle.typing.specs.Outputs.{validateOutputExpr}
+use Rattle.typing.specs.Formulas.{typeFormula, boundedAlwaysError}
 use Rattle.typing.specs.Table.{findIn, envAt}
+use Rattle.typing.specs.Means.{typedOf, outcome}
+use Rattle.typing.specs.declared.cause.Typed.{Typed}
 use Rattle.typing.specs.declared.table.Found.{Found}
 use Rattle.findings.specs.Lists.{Placed, placed, each}
-use Rattle.findings.specs.Finding.{Note, note, blamed}
+use Rattle.findings.specs.Finding.{Note, note, noted, caused, blamed, typeCause}
 use Rattle.findings.specs.Mentions.{enumName, enumVariants, states}
 use Rattle.findings.specs.Errors.{unknownState, isEmpty, initialNotes, versionNotes, initNotes, opening, guardNotes, setNotes, emitNotes, bodyNotes, own, errorEmitNotes, onErrorNotes, propertyName, repeatNotes, formulaNotes}
-use Rattle.findings.specs.Noting.{Noted}
-use Rattle.findings.specs.Scene.{Reads, RowAt, Rows, Scene, StatesAt}
+use Rattle.findings.specs.Noting.{Noted, numbered}
+use Rattle.findings.specs.Scene.{Bytes, Reads, RowAt, Rows, Scene, StatesAt}
 
 -- an entry with its place
 abbrev pub at-place : {A : Type 0} → ℕ → A → Placed A
@@ -50,10 +54,22 @@ pub record IsState (s : List ℕ) (found : Found) (at : ℕ) (r : Bool) : Type 0
 pub record NoStates (s : List ℕ) (found : Found) (r : Bool) : Type 0 where
   pub of : (vs : List Name) → StatesAt s found vs → r ≡ isEmpty vs
 
+-- the number of why an expression has no type: 0 where it has one
+pub record TypedNumber (s : List ℕ) (t : Typed) (r : ℕ) : Type 0 where
+  pub of : (a : Answer) (k : ℕ) → typedOf s t ≡ outcome k a → r ≡ causeWord (typeCause a)
+
+-- where the first value of the variable at a place stands
+pub record InitAt (s : List ℕ) (at r : ℕ) : Type 0 where
+  pub of : (v : VarDecl) (n : ℕ) → readVarDecl s at ≡ ok v n → readExpr maxDepth s r ≡ ok (v .init) n
+
 -- below, finding number n is the next one, and o the words before: r and o′ are those after
 module _ (s : List ℕ) (owner : ℕ) (o : List ℕ) (skip n r : ℕ) (o′ : List ℕ) where
   abbrev Notes : List Note → Type 0
   Notes xs = Noted owner o skip n xs r o′
+
+  -- the expression at a place, with the words that its note has
+  pub record NotesTyped (at : ℕ) (names enums : List ℕ) (site first second : ℕ) : Type 0 where
+    pub of : (e : Expr) (env : Env) → Reads readTopExpr s at e → Agree (envAt s names enums) env → Notes (caused (λ c. note site first second c) (typeCause (typeExpr env e)))
 
   -- the name at a place, where it is no State variant
   pub record NotesState (found : Found) (at site first : ℕ) : Type 0 where
@@ -92,6 +108,14 @@ module _ (s : List ℕ) (owner : ℕ) (o : List ℕ) (skip n r : ℕ) (o′ : Li
   pub record NotesBody (rows : List ℕ) (i outputs : ℕ) (vars names enums : List ℕ) : Type 0 where
     pub of : (t : Transition) (gs : List ConstructorGroup) (env : Env) → RowAt s rows i t → Groups s outputs gs → Agree (envAt s names enums) env → Known s vars env → Notes (bodyNotes env gs (at-place i t))
 
+  -- sites 6 to 8, by the number of what is wrong with the pattern
+  pub record NotesHeads (rows : List ℕ) (i : ℕ) (found : Found) (cause : ℕ) : Type 0 where
+    pub of : (vs : List Name) (t : Transition) → RowAt s rows i t → StatesAt s found vs → Notes (unknownState vs (t .state) (note 6 i 0 0) ++ unknownState vs (t .next-state) (note 7 i 0 0) ++ numbered 8 i 0 cause)
+
+  -- sites 6 to 13, by that number and by the names that the pattern binds too
+  pub record NotesJudged (places rows : List ℕ) (i : ℕ) (found : Found) (cause : ℕ) (vars names enums : List ℕ) : Type 0 where
+    pub of : (m : Module) (t : Transition) (env : Env) → Scene s places m → RowAt s rows i t → StatesAt s found (states m) → Agree (envAt s names enums) env → Known s vars env → Notes (unknownState (states m) (t .state) (note 6 i 0 0) ++ unknownState (states m) (t .next-state) (note 7 i 0 0) ++ numbered 8 i 0 cause ++ bodyNotes env (m .outputs) (at-place i t))
+
   -- the first k words of the table are the module's variables; bindings come after them
   pub record NotesTransition (places rows : List ℕ) (i : ℕ) (found : Found) (table : List ℕ) (k : ℕ) (enums : List ℕ) : Type 0 where
     pub of : (m : Module) (t : Transition) → Scene s places m → RowAt s rows i t → StatesAt s found (states m) → Agree (envAt s (take k table) enums) (forModule m) → Notes (own m (at-place i t))
@@ -115,11 +139,23 @@ pub record Claims (s table : List ℕ) (ps : List Property) : Type 0 where
   pub room : 2 * length ps ≡ length table
   pub at : (i : ℕ) (p : Property) → getElem? ps i ≡ some p → ClaimAt s table i p
 
+-- the first words of a table are those of two lists, one after the other
+pub record ClaimsSet (s : List ℕ) (a b words : ℕ) (table : List ℕ) : Type 0 where
+  pub most : words ≤ 1020
+  pub of : (ps qs : List Property) → Bytes s → Reads (listOf maxList readProperty) s a ps → Reads (listOf maxList readProperty) s b qs → Claims s (take words table) (ps ++ qs)
+
+-- whether the name of number i stands under a smaller number too
+abbrev pub earlierIn : List ℕ → List ℕ → ℕ → Bool
+earlierIn s table i = given (findIn s (textAt s (getD table (2 * i) 0)) (take (2 * i) table))
+
 module _ (s : List ℕ) (owner : ℕ) (o : List ℕ) (skip n r : ℕ) (o′ : List ℕ) where
   -- site 18
   pub record NotesRepeats (table : List ℕ) : Type 0 where
     pub of : (ps : List Property) → Claims s table ps → Noted owner o skip n (repeatNotes (map propertyName ps)) r o′
 
-  -- sites 19 and 20
+  -- sites 19 and 20: of the formula of number i, and of each
+  pub record NotesFormula (at : ℕ) (names enums : List ℕ) (i : ℕ) : Type 0 where
+    pub of : (f : Formula) (env : Env) → Reads (readFormula maxDepth) s at f → Agree (envAt s names enums) env → Noted owner o skip n (caused (λ c. note 19 i 0 c) (typeFormula env f) ++ noted (boundedAlwaysError f) (note 20 i 0 0)) r o′
+
   pub record NotesFormulas (table names enums : List ℕ) : Type 0 where
     pub of : (ps : List Property) (env : Env) → Claims s table ps → Agree (envAt s names enums) env → Noted owner o skip n (each (formulaNotes env) (placed 0 ps)) r o′

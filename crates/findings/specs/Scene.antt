@@ -1,9 +1,9 @@
 -- Places of a document in tables: those of the fields of a record, and of each record of a list.
-use Prim.Native.Nat.{ℕ, zero, suc, _+_, _*_}
+use Prim.Native.Nat.{ℕ, zero, suc, _+_, _*_, _<_}
 use mathlib.Core.Path.{_≡_}
 use mathlib.Core.List.{List, [], _∷_, _++_}
 use mathlib.Core.Option.{some}
-use lib.ListN.{getD, getElem?}
+use lib.ListN.{length, getD, getElem?}
 use lib.Seq.{sets}
 use Rattle.reading.specs.Read.{Read, Reader, ok, refused}
 use Rattle.reading.specs.Limits.{maxU32, maxList}
@@ -13,7 +13,7 @@ use Rattle.reading.specs.Combine.{listOf, optional}
 use Rattle.reading.specs.Decl.{readNames, readEnumDecl, readConstructorGroup, readVarDecl}
 use Rattle.reading.specs.Pattern.{readPattern}
 use Rattle.reading.specs.Transition.{Transition, readTopExpr, readOutputExpr, readAssignment, readOnError, readTransition}
-use Rattle.reading.specs.Module.{Module, readProperty}
+use Rattle.reading.specs.Module.{Module, readProperty, readModule}
 use Rattle.typing.specs.Table.{afterItem, afterHead}
 use Rattle.findings.specs.declared.rows.Listed.{Listed}
 use Rattle.typing.specs.declared.table.Found.{Found}
@@ -57,6 +57,10 @@ pub record RowsFilled (s : List ℕ) (at : ℕ) (table : List ℕ) (r : Listed) 
   pub words : table′ ≡ sets table 0 (rowsAt s at)
   pub of : (count first : ℕ) → readCount maxList s at ≡ ok count first → (r .count ≡ count) × (r .end ≡ rowsEnd count s first)
 
+-- each word is a byte
+abbrev pub Bytes : List ℕ → Type 0
+Bytes s = (i : ℕ) → getD s i 0 < 256
+
 -- content reads at a place
 pub record Reads {A : Type 0} (F : Reader A) (s : List ℕ) (at : ℕ) (x : A) : Type 0 where
   pub end : ℕ
@@ -97,3 +101,14 @@ pub record Scene (s places : List ℕ) (m : Module) : Type 0 where
 pub data StatesAt (s : List ℕ) : Found → List Name → Type 0 where
   states-here : {k : ℕ} {vs : List Name} → Reads readNames s k vs → StatesAt s (At k) vs
   states-none : StatesAt s Nothing []
+
+-- the tables of a module: the places of its fields and of its transitions' fields, how many transitions there are, and its end
+pub record Opened (s : List ℕ) (r : Listed) (places rows : List ℕ) (m : Module) (n : ℕ) : Type 0 where
+  pub bytes : Bytes s
+  pub scene : Scene s places m
+  pub rows-are : Rows s rows (m .transitions)
+  pub count : r .count ≡ length (m .transitions)
+  pub end : r .end ≡ n
+
+pub record Opens (s : List ℕ) (at : ℕ) (r : Listed) (places rows : List ℕ) : Type 0 where
+  pub of : (m : Module) (n : ℕ) → readModule s at ≡ ok m n → Opened s r places rows m n

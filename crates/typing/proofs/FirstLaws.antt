@@ -11,7 +11,7 @@ use Rattle.reading.specs.Limits.{maxList}
 use Rattle.reading.specs.Item.{readCount}
 use Rattle.reading.specs.Text.{Name}
 use Rattle.reading.specs.Combine.{entries, listOf}
-use Rattle.reading.specs.Decl.{ConstructorVariant, ConstructorGroup, readConstructorVariant, readConstructorGroup}
+use Rattle.reading.specs.Decl.{EnumDecl, ConstructorVariant, ConstructorGroup, readEnumDecl, readConstructorVariant, readConstructorGroup}
 use Rattle.reading.specs.Skip.{textAt}
 use Rattle.reading.specs.Link.{answer, taggedOf}
 use Rattle.reading.specs.Views.{ConstructorVariantAt, unit-variant, struct-variant}
@@ -24,8 +24,8 @@ use Rattle.reading.specs.declared.item.Tagged.{Tagged}
 use Rattle.reading.specs.declared.item.Tagged.the-variants as tagged
 use Rattle.reading.proofs.Rules.{no}
 use Rattle.reading.proofs.Answers.{num, out}
-use Rattle.reading.proofs.DeclLaws.{constructor-variant-laws, constructor-group-laws}
-use Rattle.reading.proofs.Views.{constructor-group-at}
+use Rattle.reading.proofs.DeclLaws.{enum-decl-laws, constructor-variant-laws, constructor-group-laws}
+use Rattle.reading.proofs.Views.{enum-decl-at, constructor-group-at}
 use Rattle.reading.proofs.CaseViews.{constructor-variant-at}
 use Rattle.reading.proofs.ListViews.{list-at}
 use Rattle.reading.proofs.Walks.{name-text}
@@ -33,7 +33,7 @@ use Rattle.typing.specs.Causes.{firstOf}
 use Rattle.typing.specs.Names.{eqName, called, firstCalled}
 use Rattle.typing.specs.Patterns.{declaredName}
 use Rattle.typing.specs.Table.{placeAfter, afterHead, afterTag, Past}
-use Rattle.typing.specs.First.{FoundAt, found-here, found-nothing, groupName, First}
+use Rattle.typing.specs.First.{FoundAt, found-here, found-nothing, groupName, enumName, First}
 use Rattle.typing.specs.declared.table.Found.{Found}
 use Rattle.typing.specs.declared.table.Found.the-variants.{At, Nothing}
 use Rattle.typing.proofs.TableLaws.{tag-was, tag-out}
@@ -118,19 +118,41 @@ module _ {A : Type 0} (F : Reader A) (name : A → Name) (s : List ℕ) (at : �
                 same = rw (sym (e x (u .end) (u .here)) ∙ z) at i;
               }
 
--- groups: the name stands after the head
-module _ (s : List ℕ) (at : ℕ) (w : Name) (left k : ℕ) {key : ℕ} {text : Name} {b : Bool} (g : Scanning readConstructorGroup groupName s at w left k) (h : 0 < left) (i : key ≡ afterHead s k) (t : text ≡ textAt s key) (e : b ≡ eqName text w) where
-  group-name : (x : ConstructorGroup) (n : ℕ) → readConstructorGroup s k ≡ ok x n → b ≡ eqName (groupName x) w
-  group-name x n q =
-      let v = constructor-group-at s k x n q in
-      let j : key ≡ v .name = i ∙ fields-head 2 s k tt (v .name) (v .opens) in
-      e ∙ ap (λ (z : Name). eqName z w) (t ∙ ap (textAt s) j ∙ name-text s (v .name) (x .name) (v .variants) (v .name-is))
+-- records: the name stands after the head
+module _ {A : Type 0} (F : Reader A) (name : A → Name) (s : List ℕ) (named : (k : ℕ) (x : A) (n : ℕ) → F s k ≡ ok x n → textAt s (afterHead s k) ≡ name x) (at : ℕ) (w : Name) (left k : ℕ) {key : ℕ} {text : Name} {b : Bool} (g : Scanning F name s at w left k) (h : 0 < left) (i : key ≡ afterHead s k) (t : text ≡ textAt s key) (e : b ≡ eqName text w) where
+  record-name : (x : A) (n : ℕ) → F s k ≡ ok x n → b ≡ eqName (name x) w
+  record-name x n q = e ∙ ap (λ (z : Name). eqName z w) (t ∙ ap (textAt s) i ∙ named k x n q)
 
-  pub group-hit : b ≡ true → First readConstructorGroup groupName s at w (At k)
-  group-hit = hit readConstructorGroup groupName s at w left k g h group-name
+  record-hit : b ≡ true → First F name s at w (At k)
+  record-hit = hit F name s at w left k g h record-name
 
-  pub group-miss : {k' : ℕ} → b ≡ false → Past s k k' → Scanning readConstructorGroup groupName s at w (left - 1) k'
-  group-miss z p = miss readConstructorGroup groupName s at w left k g h group-name z (λ x n q. p .is ∙ after-is constructor-group-laws s (p .each) k x n q)
+  record-miss : {k' : ℕ} → b ≡ false → ((x : A) (n : ℕ) → F s k ≡ ok x n → k' ≡ n) → Scanning F name s at w (left - 1) k'
+  record-miss z p = miss F name s at w left k g h record-name z p
+
+group-named : (s : List ℕ) (k : ℕ) (x : ConstructorGroup) (n : ℕ) → readConstructorGroup s k ≡ ok x n → textAt s (afterHead s k) ≡ groupName x
+group-named s k x n q =
+    let v = constructor-group-at s k x n q in
+    ap (textAt s) (fields-head 2 s k tt (v .name) (v .opens)) ∙ name-text s (v .name) (x .name) (v .variants) (v .name-is)
+
+enum-named : (s : List ℕ) (k : ℕ) (x : EnumDecl) (n : ℕ) → readEnumDecl s k ≡ ok x n → textAt s (afterHead s k) ≡ enumName x
+enum-named s k x n q =
+    let v = enum-decl-at s k x n q in
+    ap (textAt s) (fields-head 2 s k tt (v .name) (v .opens)) ∙ name-text s (v .name) (x .name) (v .variants) (v .name-is)
+
+module _ (s : List ℕ) (at : ℕ) (w : Name) (left k : ℕ) {key : ℕ} {text : Name} {b : Bool} (h : 0 < left) (i : key ≡ afterHead s k) (t : text ≡ textAt s key) (e : b ≡ eqName text w) where
+  module _ (g : Scanning readConstructorGroup groupName s at w left k) where
+    pub group-hit : b ≡ true → First readConstructorGroup groupName s at w (At k)
+    group-hit = record-hit readConstructorGroup groupName s (group-named s) at w left k g h i t e
+
+    pub group-miss : {k' : ℕ} → b ≡ false → Past s k k' → Scanning readConstructorGroup groupName s at w (left - 1) k'
+    group-miss z p = record-miss readConstructorGroup groupName s (group-named s) at w left k g h i t e z (λ x n q. p .is ∙ after-is constructor-group-laws s (p .each) k x n q)
+
+  module _ (g : Scanning readEnumDecl enumName s at w left k) where
+    pub enum-hit : b ≡ true → First readEnumDecl enumName s at w (At k)
+    enum-hit = record-hit readEnumDecl enumName s (enum-named s) at w left k g h i t e
+
+    pub enum-miss : {k' : ℕ} → b ≡ false → Past s k k' → Scanning readEnumDecl enumName s at w (left - 1) k'
+    enum-miss z p = record-miss readEnumDecl enumName s (enum-named s) at w left k g h i t e z (λ x n q. p .is ∙ after-is enum-decl-laws s (p .each) k x n q)
 
 -- variants: after the case number
 pub declared-text : (s : List ℕ) {m c n : ℕ} {x : ConstructorVariant} → ConstructorVariantAt s m c x n → textAt s m ≡ declaredName x

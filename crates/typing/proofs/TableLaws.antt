@@ -197,6 +197,9 @@ module _ (s : List ℕ) (at : ℕ) (table : List ℕ) where
         let p = g .place in
         record { many = omega arith; words = rw z at (g .rest) }
 
+    pub fill-few : j ≤ 510
+    fill-few = let m = g .few in omega arith
+
     pub fill-more : {name under k' : ℕ} {now' now″ : List ℕ} → 0 < left → name ≡ afterHead s k → now' ≡ set now j name → under ≡ afterItem s name → now″ ≡ set now' (j + 1) under → k' ≡ afterItem s k → Filling (left - 1) k' (j + 2) now″
     unfolding pairsFrom
     fill-more {name} {under} {k'} {now'} {now″} h a b c d i =

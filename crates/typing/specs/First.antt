@@ -7,7 +7,7 @@ use Rattle.reading.specs.Read.{Reader, ok}
 use Rattle.reading.specs.Limits.{maxList}
 use Rattle.reading.specs.Text.{Name}
 use Rattle.reading.specs.Combine.{listOf}
-use Rattle.reading.specs.Decl.{ConstructorVariant, ConstructorGroup, readConstructorVariant, readConstructorGroup}
+use Rattle.reading.specs.Decl.{EnumDecl, ConstructorGroup, readEnumDecl, readConstructorVariant, readConstructorGroup}
 use Rattle.typing.specs.Names.{firstCalled}
 use Rattle.typing.specs.Patterns.{declaredName}
 use Rattle.typing.specs.declared.table.Found.{Found}
@@ -21,12 +21,18 @@ pub data FoundAt {A : Type 0} (F : Reader A) (s : List ℕ) : Found → Option A
 abbrev pub groupName : ConstructorGroup → Name
 groupName g = g .name
 
+abbrev pub enumName : EnumDecl → Name
+enumName e = e .name
+
 -- for whatever list reads at a place
 pub record First {A : Type 0} (F : Reader A) (name : A → Name) (s : List ℕ) (at : ℕ) (w : Name) (r : Found) : Type 0 where
   pub of : (xs : List A) (n : ℕ) → listOf maxList F s at ≡ ok xs n → FoundAt F s r (firstCalled name w xs)
 
 abbrev pub FirstGroup : List ℕ → ℕ → Name → Found → Type 0
 FirstGroup = First readConstructorGroup groupName
+
+abbrev pub FirstEnum : List ℕ → ℕ → Name → Found → Type 0
+FirstEnum = First readEnumDecl enumName
 
 abbrev pub FirstVariant : List ℕ → ℕ → Name → Found → Type 0
 FirstVariant = First readConstructorVariant declaredName

@@ -4,6 +4,7 @@ use reading::Answer;
 use reading::Cursor;
 use reading::Tagged;
 ghost use mathlib.Core.Path.{_≡_};
+ghost use Prim.Native.Nat.{_≤_};
 ghost use mathlib.Core.List.{[], _∷_};
 ghost use lib.ListN.{set};
 ghost use lib.Seq.{sets};
@@ -33,6 +34,7 @@ pub fn after_head(doc: &[u8], at: usize) -> usize
 // Fills the table from the list of records at a place; how many words it takes.
 pub fn fill_table(doc: &[u8], at: usize, table: &mut [usize]) -> usize
     ensures { λ r. ⌜ Filled (now (table .entry)) (pairsAt (now (doc .entry)) at) r (now (table .exit)) ⌝ }
+    ensures { λ r. ⌜ r ≤ 510 ⌝ }
 {
     let c = Cursor { at };
     let r = c.count(doc, 255);

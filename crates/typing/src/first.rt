@@ -1,4 +1,4 @@
-// The first group or variant of a name.
+// The first group, enum or variant of a name.
 use crate::fill::after_head;
 use crate::fill::after_tag;
 use crate::names::same;
@@ -7,11 +7,12 @@ use crate::table::after;
 use reading::Answer;
 use reading::Cursor;
 use reading::text_at;
-ghost use Rattle.typing.specs.First.{FirstGroup, FirstVariant};
+ghost use Rattle.typing.specs.First.{FirstGroup, FirstEnum, FirstVariant};
 
-// In the list of groups at a place.
-pub fn first_group<'a>(doc: &'a [u8], at: usize, name: &'a [u8]) -> Found
+// In the list of groups or enums at a place: both records begin with their name.
+pub fn first_record<'a>(doc: &'a [u8], at: usize, name: &'a [u8]) -> Found
     ensures { λ r. ⌜ FirstGroup (now (doc .entry)) at (now (name .entry)) r ⌝ }
+    ensures { λ r. ⌜ FirstEnum (now (doc .entry)) at (now (name .entry)) r ⌝ }
 {
     let c = Cursor { at };
     let r = c.count(doc, 255);

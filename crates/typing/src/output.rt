@@ -10,7 +10,7 @@ use crate::entries::fields_at;
 use crate::expr::type_expr;
 use crate::fill::after_head;
 use crate::fill::after_tag;
-use crate::first::first_group;
+use crate::first::first_record;
 use crate::first::first_variant;
 use crate::rules::Fit;
 use crate::rules::compatible_with;
@@ -133,7 +133,7 @@ pub fn validate_output_expr<'a>(
     ensures { λ r. ⌜ JudgesOutput (envAt (now (doc .entry)) (now (names .entry)) (now (enums .entry))) (now (doc .entry)) at outputs r ⌝ }
 {
     let group = after_head(doc, at);
-    let f = first_group(doc, outputs, text_at(doc, group));
+    let f = first_record(doc, outputs, text_at(doc, group));
     let Found::At(decl) = f else {
         return Blame::Found(Within::Alone, Cause::UnknownOutputGroup(group));
     };

@@ -1,7 +1,7 @@
 -- What is still to come, put from word j on, makes the whole table.
 use native.Mathlib.Omega.{arith}
 use borrow.Author.Needs.{needs}
-use Rattle.typing.proofs.TableLaws.{Filling, fill-refused, fill-start, fill-more, fill-done}
+use Rattle.typing.proofs.TableLaws.{Filling, fill-refused, fill-start, fill-more, fill-done, fill-few}
 use Rattle.typing.proofs.fill.fill_table.Statement.{statement}
 use Rattle.typing.proofs.fill.fill_table.Tie as tie
 
@@ -23,7 +23,7 @@ fill-table-spec =
     (λ c κs. search needs)
     (λ c. search needs)
     (λ c. search needs)
-    (λ c. search fill-refused)
+    (λ c. (search fill-refused, omega arith))
     (λ c. search fill-start)
     (λ c κs. search needs)
     (λ c κs. search needs)
@@ -36,4 +36,4 @@ fill-table-spec =
     (λ c. omega arith)
     loop-again
     (λ c. search needs)
-    (λ c. search fill-done))
+    (λ c. (search fill-done, search fill-few)))
