@@ -41,3 +41,4 @@ pub mod TouchLaws
 pub mod MentionLaws
 pub mod UnusedLaws
 pub mod UseLaws
+pub mod DeadLaws

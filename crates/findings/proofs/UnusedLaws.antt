@@ -35,7 +35,7 @@ use Rattle.findings.specs.Mentions.{allTouched}
 use Rattle.findings.specs.Warnings.{unused}
 use Rattle.findings.specs.Noting.{Noted}
 use Rattle.findings.specs.Scene.{Reads, Scene}
-use Rattle.findings.specs.Touch.{varAt, TouchesAll, VarsFilled, Marked, MarksUsed, NotesUnmarked}
+use Rattle.findings.specs.Touch.{varAt, TouchesAll, PairsFilled, Marked, MarksUsed, NotesUnmarked}
 use Rattle.findings.specs.WarningPromises.{NotesUnused}
 use Rattle.findings.proofs.NoteLaws.{note-as}
 use Rattle.findings.proofs.EachLaws.{Left, left-all, get-some, eachFrom, each-turn, each-done}
@@ -71,7 +71,7 @@ getElem-below [] i x e = no (cc)
 getElem-below (y ∷ xs) zero x e = omega arith
 getElem-below (y ∷ xs) (suc i) x e = let h = getElem-below xs i x e in omega arith
 
-module _ (s places rows : List ℕ) (count : ℕ) {at r : ℕ} {table table′ m m′ : List ℕ} (e : at ≡ getD places 7 0) (f : VarsFilled s at table r table′) (t : TouchesAll s rows (take (r - 0) table′) m m′ places count) (h : length table ≡ 512) (z : m ≡ replicate 256 0) where
+module _ (s places rows : List ℕ) (count : ℕ) {at r : ℕ} {table table′ m m′ : List ℕ} (e : at ≡ getD places 7 0) (f : PairsFilled s at table r table′) (t : TouchesAll s rows (take (r - 0) table′) m m′ places count) (h : length table ≡ 512) (z : m ≡ replicate 256 0) where
   pub used-marked : MarksUsed s places rows count (r / 2) m′
   used-marked = record {
     many = λ x c.

@@ -3,6 +3,7 @@
 // `specs/` says what is right, over the document's content; `proofs/` says why the code gives it.
 mod cause;
 mod claims;
+mod dead;
 mod emits;
 mod guard;
 mod impossible;
