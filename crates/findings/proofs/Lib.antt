@@ -41,4 +41,12 @@ pub mod TouchLaws
 pub mod MentionLaws
 pub mod UnusedLaws
 pub mod UseLaws
+pub mod PlaceLaws
+pub mod PrintLaws
+pub mod PairTests
+pub mod PriorityLaws
+pub mod ClashLaws
+pub mod AlikeLaws
+pub mod OrderLaws
+pub mod StateTurns
 pub mod DeadLaws

@@ -21,3 +21,6 @@ pub mod Reply
 pub mod Walks
 pub mod Touch
 pub mod Uses
+pub mod Parts
+pub mod PairSteps
+pub mod StateSteps

@@ -1,8 +1,10 @@
 // Findings: what is wrong with a document, and what is doubtful in it, as words.
 //
 // `specs/` says what is right, over the document's content; `proofs/` says why the code gives it.
+mod by_state;
 mod cause;
 mod claims;
+mod clash;
 mod dead;
 mod emits;
 mod guard;
@@ -11,7 +13,11 @@ mod mentions;
 mod module;
 mod on_error;
 mod opening;
+mod order;
 mod output;
+mod pairs;
+mod prints;
+mod priority;
 mod reply;
 mod rows;
 mod sets;
