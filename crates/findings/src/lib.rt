@@ -5,6 +5,7 @@ mod by_state;
 mod cause;
 mod claims;
 mod clash;
+mod dead;
 mod emits;
 mod errors;
 mod guard;
