@@ -27,7 +27,7 @@ use Rattle.findings.specs.Scene.{Reads, Opens}
 use Rattle.findings.specs.Promises.{ClaimsSet, FirstStates, NotesOpening, NotesTransitions, NotesOnError, NotesRepeats, NotesFormulas}
 use Rattle.findings.specs.PairPromises.{Printed, pairNotes, NotesPairs}
 use Rattle.findings.specs.WarningPromises.{NotesUnreachable, NotesDead, NotesUnused, NotesImpossible}
-use Rattle.findings.specs.Walks.{WalksModule}
+use Rattle.findings.specs.Walks.{WalksNamed, WalksModule}
 use Rattle.findings.specs.ModulePromises.{Names, NotesFore, NotesMost, NotesClosing, NotesErrors, NotesWarnings}
 use Rattle.findings.specs.declared.module.Named.{Named}
 use Rattle.findings.specs.declared.rows.Listed.{Listed}
@@ -113,17 +113,22 @@ doubts-noted s owner i x j y z u v = record {
 }
 
 -- the tables and then both walks
-pub module-walked : (s : List ℕ) (owner at : ℕ) {o o′ p p′ : List ℕ} {skip n r leave k q : ℕ} {l : Listed} {places rows prints table enums properties : List ℕ} {found : Found} {t : Named} {p₃ : ℕ} → Opens s at l places rows → Printed s rows (l .count) prints → p₃ ≡ getD places 3 0 → FirstStates s p₃ found → Names s places t table enums properties → NotesErrors s owner o skip n r o′ places found rows prints (l .count) (take (2 * t .vars) table) (take (t .enums) enums) (take (t .claims) properties) → NotesWarnings s owner p leave k q p′ places found rows prints (l .count) → WalksModule s o skip n r o′ p leave k q p′ owner at (l .end)
+pub named-walked : (s : List ℕ) (owner : ℕ) {o o′ p p′ : List ℕ} {skip n r leave k q : ℕ} {places rows prints : List ℕ} (table enums properties : List ℕ) {found : Found} {count : ℕ} (t : Named) → FirstStates s (getD places 3 0) found → Names s places t table enums properties → NotesErrors s owner o skip n r o′ places found rows prints count (take (2 * t .vars) table) (take (t .enums - 0) enums) (take (t .claims - 0) properties) → NotesWarnings s owner p leave k q p′ places found rows prints count → WalksNamed s o skip n r o′ p leave k q p′ owner places rows prints count
 unfolding states
-module-walked s owner at {found} x y i z w u v = record {
+named-walked s owner table enums properties {found} t z w u v = record {
+  of = λ m B g rs ps e.
+      let c = z .of (m .enums) (g .enums-are) in
+      let d = w .of m B g in
+      let i : t .enums - 0 ≡ t .enums = omega arith in
+      let j : t .claims - 0 ≡ t .claims = omega arith in
+      (u .of m g rs ps e c (rw i (d .agree)) (rw j (d .claims-are)), v .of m g rs ps e c);
+}
+
+pub module-walked : (s : List ℕ) (owner at : ℕ) {o o′ p p′ : List ℕ} {skip n r leave k q : ℕ} {l : Listed} {places rows prints : List ℕ} → Opens s at l places rows → Printed s rows (l .count) prints → WalksNamed s o skip n r o′ p leave k q p′ owner places rows prints (l .count) → WalksModule s o skip n r o′ p leave k q p′ owner at (l .end)
+module-walked s owner at x y w = record {
   of = λ m e g.
       let a = x .of m e g in
       let b = y .of (m .transitions) (a .rows-are) (a .count) in
-      let c = z .of (m .enums) (moved i (a .scene .enums-are)) in
-      let d = w .of m (a .bytes) (a .scene) in
-      record {
-        errors-are = u .of m (a .scene) (a .rows-are) b (a .count) c (d .agree) (d .claims-are);
-        warnings-are = v .of m (a .scene) (a .rows-are) b (a .count) c;
-        ends = a .end;
-      };
+      let c = w .of m (a .bytes) (a .scene) (a .rows-are) b (a .count) in
+      record { errors-are = c .0; warnings-are = c .1; ends = a .end };
 }

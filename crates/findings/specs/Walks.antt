@@ -2,6 +2,7 @@
 use Prim.Native.Nat.{ℕ}
 use mathlib.Core.Path.{_≡_}
 use mathlib.Core.List.{List}
+use lib.ListN.{length}
 use Rattle.reading.specs.Read.{ok}
 use Rattle.reading.specs.Limits.{maxModules}
 use Rattle.reading.specs.Combine.{listOf}
@@ -12,7 +13,8 @@ use Rattle.findings.specs.Warnings.{warnings}
 use Rattle.findings.specs.Findings.{byModule, allErrors, allWarnings}
 use Rattle.findings.specs.Sheet.{Written}
 use Rattle.findings.specs.Noting.{Noted}
-use Rattle.findings.specs.Scene.{Reads}
+use Rattle.findings.specs.Scene.{Bytes, Reads, Rows, Scene}
+use Rattle.findings.specs.Prints.{Prints}
 use Rattle.findings.specs.Reply.{replyTo, sheetOf, lineTo}
 use Rattle.findings.specs.declared.reply.Reply.{Reply}
 use Rattle.findings.specs.declared.reply.Line.{Line}
@@ -24,6 +26,10 @@ module _ (s o : List ℕ) (skip n r : ℕ) (o′ p : List ℕ) (leave k q : ℕ)
     pub errors-are : Noted owner o skip n (errors m) r o′
     pub warnings-are : Noted owner p leave k (warnings m) q p′
     pub ends : end ≡ e
+
+  -- of a module whose fields' places are known
+  pub record WalksNamed (owner : ℕ) (places rows prints : List ℕ) (count : ℕ) : Type 0 where
+    pub of : (m : Module) → Bytes s → Scene s places m → Rows s rows (m .transitions) → Prints prints (m .transitions) → count ≡ length (m .transitions) → Noted owner o skip n (errors m) r o′ × Noted owner p leave k (warnings m) q p′
 
   pub record WalksModule (owner at end : ℕ) : Type 0 where
     pub of : (m : Module) (e : ℕ) → readModule s at ≡ ok m e → ModuleWalked owner end m e

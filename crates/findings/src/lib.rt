@@ -19,6 +19,7 @@ mod output;
 mod pairs;
 mod prints;
 mod priority;
+mod reach;
 mod reply;
 mod rows;
 mod sets;
@@ -28,6 +29,8 @@ mod touch;
 mod transition;
 mod unused;
 mod uses;
+mod warnings;
+mod whole;
 
 pub use reply::Line;
 pub use reply::Reply;

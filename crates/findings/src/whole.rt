@@ -1,0 +1,287 @@
+// The walk over a document's modules: errors go to one buffer and warnings to another.
+use crate::errors::note_errors;
+use crate::module::Named;
+use crate::module::fill_names;
+use crate::module::open_module;
+use crate::prints::fill_prints;
+use crate::rows::Listed;
+use crate::rows::word;
+use crate::states::first_states;
+use crate::warnings::note_warnings;
+use reading::Answer;
+use reading::Cursor;
+use typing::Found;
+use typing::after;
+use typing::after_head;
+ghost use mathlib.Core.Path.{_≡_};
+ghost use Prim.Native.Nat.{_+_, _-_, _*_, _≤_, _^_};
+ghost use lib.ListN.{length, getD, take};
+ghost use Rattle.findings.specs.Scene.{Opens};
+ghost use Rattle.findings.specs.Promises.{FirstStates};
+ghost use Rattle.findings.specs.PairPromises.{Printed};
+ghost use Rattle.findings.specs.ModulePromises.{NotesErrors, NotesWarnings};
+ghost use Rattle.findings.specs.Walks.{WalksNamed, WalksModule, WalksModules, WalksAll};
+
+// The next number of an error and of a warning.
+pub struct Totals {
+    pub errors: usize,
+    pub warnings: usize,
+}
+
+// Both walks over a module whose tables are filled.
+fn judge_module<'a>(
+    doc: &'a [u8],
+    places: &'a [usize],
+    rows: &'a [usize],
+    prints: &'a [u32],
+    count: u8,
+    found: Found,
+    table: &mut [usize],
+    vars: u8,
+    enums: &'a [usize],
+    claims: &'a [usize],
+    out: &mut [u32],
+    skip: usize,
+    n: usize,
+    aside: &mut [u32],
+    leave: usize,
+    k: usize,
+    owner: u32,
+) -> Totals
+    requires { ⌜ 768 ≤ length (now prints) ⌝ }
+    requires { ⌜ 1020 ≤ length (now table) ⌝ }
+    requires { ⌜ length (now claims) ≤ 1020 ⌝ }
+    requires { ⌜ n + 33295864 ≤ 2 ^ 40 ⌝ }
+    requires { ⌜ k + 33228540 ≤ 2 ^ 40 ⌝ }
+    ensures { λ r. ⌜ NotesErrors (now (doc .entry)) owner (now (out .entry)) skip n (r .errors) (now (out .exit)) (now (places .entry)) found (now (rows .entry)) (now (prints .entry)) count (take (2 * vars) (now (table .entry))) (now (enums .entry)) (now (claims .entry)) ⌝ }
+    ensures { λ r. ⌜ NotesWarnings (now (doc .entry)) owner (now (aside .entry)) leave k (r .warnings) (now (aside .exit)) (now (places .entry)) found (now (rows .entry)) (now (prints .entry)) count ⌝ }
+    ensures { λ r. ⌜ r .errors ≤ n + 33295864 ⌝ }
+    ensures { λ r. ⌜ r .warnings ≤ k + 33228540 ⌝ }
+{
+    let errors = note_errors(
+        doc,
+        places,
+        rows,
+        prints,
+        count,
+        found,
+        table,
+        vars,
+        enums,
+        claims,
+        out,
+        skip,
+        n,
+        owner,
+    );
+    let warnings = note_warnings(
+        doc,
+        places,
+        rows,
+        prints,
+        count,
+        found,
+        aside,
+        leave,
+        k,
+        owner,
+    );
+    Totals { errors, warnings }
+}
+
+// The same by how many words the tables take.
+fn judge_named<'a>(
+    doc: &'a [u8],
+    places: &'a [usize],
+    rows: &'a [usize],
+    prints: &'a [u32],
+    count: u8,
+    found: Found,
+    table: &mut [usize],
+    named: Named,
+    enums: &'a [usize],
+    claims: &'a [usize],
+    out: &mut [u32],
+    skip: usize,
+    n: usize,
+    aside: &mut [u32],
+    leave: usize,
+    k: usize,
+    owner: u32,
+) -> Totals
+    requires { ⌜ 768 ≤ length (now prints) ⌝ }
+    requires { ⌜ 1020 ≤ length (now table) ⌝ }
+    requires { ⌜ named .enums ≤ length (now enums) ⌝ }
+    requires { ⌜ named .claims ≤ length (now claims) ⌝ }
+    requires { ⌜ named .claims ≤ 1020 ⌝ }
+    requires { ⌜ n + 33295864 ≤ 2 ^ 40 ⌝ }
+    requires { ⌜ k + 33228540 ≤ 2 ^ 40 ⌝ }
+    ensures { λ r. ⌜ NotesErrors (now (doc .entry)) owner (now (out .entry)) skip n (r .errors) (now (out .exit)) (now (places .entry)) found (now (rows .entry)) (now (prints .entry)) count (take (2 * named .vars) (now (table .entry))) (take (named .enums - 0) (now (enums .entry))) (take (named .claims - 0) (now (claims .entry))) ⌝ }
+    ensures { λ r. ⌜ NotesWarnings (now (doc .entry)) owner (now (aside .entry)) leave k (r .warnings) (now (aside .exit)) (now (places .entry)) found (now (rows .entry)) (now (prints .entry)) count ⌝ }
+    ensures { λ r. ⌜ r .errors ≤ n + 33295864 ⌝ }
+    ensures { λ r. ⌜ r .warnings ≤ k + 33228540 ⌝ }
+{
+    let a = named.enums;
+    let b = named.claims;
+    let known = &enums[0..a];
+    let listed = &claims[0..b];
+    judge_module(
+        doc,
+        places,
+        rows,
+        prints,
+        count,
+        found,
+        table,
+        named.vars,
+        known,
+        listed,
+        out,
+        skip,
+        n,
+        aside,
+        leave,
+        k,
+        owner,
+    )
+}
+
+// The numbers after a module, and the place after it.
+pub struct Passed {
+    pub errors: usize,
+    pub warnings: usize,
+    pub end: usize,
+}
+
+// The places of a module's fields and of its transitions' fields, with the prints of the transitions.
+fn open_printed(
+    doc: &[u8],
+    at: usize,
+    places: &mut [usize],
+    rows: &mut [usize],
+    prints: &mut [u32],
+) -> Listed
+    requires { ⌜ 11 ≤ length (now places) ⌝ }
+    requires { ⌜ 2040 ≤ length (now rows) ⌝ }
+    requires { ⌜ 768 ≤ length (now prints) ⌝ }
+    ensures { λ r. ⌜ Opens (now (doc .entry)) at r (now (places .exit)) (now (rows .exit)) ⌝ }
+    ensures { λ r. ⌜ Printed (now (doc .entry)) (now (rows .exit)) (r .count) (now (prints .exit)) ⌝ }
+{
+    let listed = open_module(doc, at, places, rows);
+    fill_prints(doc, rows, listed.count, prints);
+    listed
+}
+
+// The first enum called State of a module.
+fn states_of(doc: &[u8], places: &[usize]) -> Found
+    ensures { λ r. ⌜ FirstStates (now (doc .entry)) (getD (now (places .entry)) 3 0) r ⌝ }
+{
+    let enums = word(places, 3);
+    first_states(doc, enums)
+}
+
+// Both walks over a module whose fields' places are known; the tables of names are filled anew.
+fn walk_named(
+    doc: &[u8],
+    owner: u32,
+    places: &[usize],
+    rows: &[usize],
+    prints: &[u32],
+    count: u8,
+    table: &mut [usize],
+    enums: &mut [usize],
+    claims: &mut [usize],
+    out: &mut [u32],
+    skip: usize,
+    n: usize,
+    aside: &mut [u32],
+    leave: usize,
+    k: usize,
+) -> Totals
+    requires { ⌜ 768 ≤ length (now prints) ⌝ }
+    requires { ⌜ 1020 ≤ length (now table) ⌝ }
+    requires { ⌜ 510 ≤ length (now enums) ⌝ }
+    requires { ⌜ length (now claims) ≡ 1020 ⌝ }
+    requires { ⌜ n + 33295864 ≤ 2 ^ 40 ⌝ }
+    requires { ⌜ k + 33228540 ≤ 2 ^ 40 ⌝ }
+    ensures { λ r. ⌜ WalksNamed (now (doc .entry)) (now (out .entry)) skip n (r .errors) (now (out .exit)) (now (aside .entry)) leave k (r .warnings) (now (aside .exit)) owner (now (places .entry)) (now (rows .entry)) (now (prints .entry)) count ⌝ }
+    ensures { λ r. ⌜ r .errors ≤ n + 33295864 ⌝ }
+    ensures { λ r. ⌜ r .warnings ≤ k + 33228540 ⌝ }
+{
+    let found = states_of(doc, places);
+    let named = fill_names(doc, places, table, enums, claims);
+    judge_named(
+        doc,
+        places,
+        rows,
+        prints,
+        count,
+        found,
+        table,
+        named,
+        enums,
+        claims,
+        out,
+        skip,
+        n,
+        aside,
+        leave,
+        k,
+        owner,
+    )
+}
+
+// Both walks over the module at a place. The tables are filled anew.
+fn walk_module(
+    doc: &[u8],
+    at: usize,
+    owner: u32,
+    places: &mut [usize],
+    rows: &mut [usize],
+    prints: &mut [u32],
+    table: &mut [usize],
+    enums: &mut [usize],
+    claims: &mut [usize],
+    out: &mut [u32],
+    skip: usize,
+    n: usize,
+    aside: &mut [u32],
+    leave: usize,
+    k: usize,
+) -> Passed
+    requires { ⌜ 11 ≤ length (now places) ⌝ }
+    requires { ⌜ 2040 ≤ length (now rows) ⌝ }
+    requires { ⌜ 768 ≤ length (now prints) ⌝ }
+    requires { ⌜ 1020 ≤ length (now table) ⌝ }
+    requires { ⌜ 510 ≤ length (now enums) ⌝ }
+    requires { ⌜ length (now claims) ≡ 1020 ⌝ }
+    requires { ⌜ n + 33295864 ≤ 2 ^ 40 ⌝ }
+    requires { ⌜ k + 33228540 ≤ 2 ^ 40 ⌝ }
+    ensures { λ r. ⌜ WalksModule (now (doc .entry)) (now (out .entry)) skip n (r .errors) (now (out .exit)) (now (aside .entry)) leave k (r .warnings) (now (aside .exit)) owner at (r .end) ⌝ }
+    ensures { λ r. ⌜ r .errors ≤ n + 33295864 ⌝ }
+    ensures { λ r. ⌜ r .warnings ≤ k + 33228540 ⌝ }
+{
+    let listed = open_printed(doc, at, places, rows, prints);
+    let totals = walk_named(
+        doc,
+        owner,
+        places,
+        rows,
+        prints,
+        listed.count,
+        table,
+        enums,
+        claims,
+        out,
+        skip,
+        n,
+        aside,
+        leave,
+        k,
+    );
+    Passed {
+        errors: totals.errors,
+        warnings: totals.warnings,
+        end: listed.end,
+    }
+}
