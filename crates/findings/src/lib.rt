@@ -18,6 +18,7 @@ mod output;
 mod pairs;
 mod prints;
 mod priority;
+mod reach;
 mod reply;
 mod rows;
 mod sets;
@@ -27,6 +28,7 @@ mod touch;
 mod transition;
 mod unused;
 mod uses;
+mod walk;
 
 pub use reply::Line;
 pub use reply::Reply;
