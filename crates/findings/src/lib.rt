@@ -7,6 +7,7 @@ mod claims;
 mod clash;
 mod dead;
 mod emits;
+mod errors;
 mod guard;
 mod impossible;
 mod mentions;
