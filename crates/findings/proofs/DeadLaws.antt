@@ -51,6 +51,7 @@ use Rattle.findings.specs.Uses.{variantNames, isBare, patternNames, patt
 use Rattle.findings.specs.declared.uses.Uses.{Uses}
 use Rattle.findings.proofs.NoteLaws.{note-as}
 use Rattle.findings.proofs.EachLaws.{Left, left-all, get-some, drop-get, eachFrom, each-turn, each-done, Walking, walk-start, walk-refused, walk-more, walk-done}
+use Rattle.findings.proofs.ListLaws.{each-cong}
 use Rattle.findings.proofs.ClaimTables.{pairs-few, filled-front}
 use Rattle.findings.proofs.TouchLaws.{member-append}
 
@@ -90,14 +91,10 @@ module _ (gs : List ConstructorGroup) (g v : Name) where
       go true none i = ap (λ (x : Bool). member v vs || x) i ∙ absent-use (member v vs) (member v (namedBy g ts)) (bareBy g ts)
       go true (some w) i = ap (λ (x : Bool). eqName (patternVariantName w) v || x) i ∙ present-use (eqName (patternVariantName w) v) (member v (namedBy g ts)) (bareBy g ts && member v vs)
 
--- what is given of each entry, where entries are told otherwise, and where what is given is the same
-each-map : {A B : Type 0} (d : A → B) (f : Placed B → List Note) (k : ℕ) (xs : List A) → each (λ (p : Placed A). f (at-place (p .place) (d (p .item)))) (placed k xs) ≡ each f (placed k (map d xs))
-each-map d f k [] = refl
-each-map d f k (x ∷ xs) = ap (λ (l : List Note). f (at-place k (d x)) ++ l) (each-map d f (suc k) xs)
-
-each-same : {A : Type 0} (f h : Placed A → List Note) → ((p : Placed A) → f p ≡ h p) → (xs : List (Placed A)) → each f xs ≡ each h xs
-each-same f h e [] = refl
-each-same f h e (x ∷ xs) = rw (e x, each-same f h e xs)
+-- what is given of each entry, where entries are told otherwise
+each-placed : {A B : Type 0} (d : A → B) (f : Placed B → List Note) (k : ℕ) (xs : List A) → each (λ (p : Placed A). f (at-place (p .place) (d (p .item)))) (placed k xs) ≡ each f (placed k (map d xs))
+each-placed d f k [] = refl
+each-placed d f k (x ∷ xs) = ap (λ (l : List Note). f (at-place k (d x)) ++ l) (each-placed d f (suc k) xs)
 
 -- the variants of the first group of a name
 module _ (s groups : List ℕ) (w : Name) where
@@ -184,8 +181,8 @@ group-noted s owner o skip n r o′ rows count groups g {text} {text₂} {table}
       } in
       let m : u .bare ≡ bareBy (x .name) ts = y .bare ts w q ∙ ap (λ (v : Name). bareBy v ts) a in
       note-as owner _
-      (each-same (unusedVariant u g h) _ (λ v. ap (λ (k : Bool). noted (not (usedBy k (h .variants) (h .names) (declaredName (v .item)))) (note 22 g (v .place) 0)) m ∙ ap (λ (k : Bool). noted (not k) (note 22 g (v .place) 0)) (sym (uses-any gs (x .name) (declaredName (v .item)) ts))) (placed 0 (x .variants))
-      ∙ each-map declaredName (λ v. noted (not (any (usesEvent gs (x .name) (v .item)) ts)) (note 22 g (v .place) 0)) 0 (x .variants))
+      (each-cong (placed 0 (x .variants)) (λ v. ap (λ (k : Bool). noted (not (usedBy k (h .variants) (h .names) (declaredName (v .item)))) (note 22 g (v .place) 0)) m ∙ ap (λ (k : Bool). noted (not k) (note 22 g (v .place) 0)) (sym (uses-any gs (x .name) (declaredName (v .item)) ts)))
+      ∙ each-placed declaredName (λ v. noted (not (any (usesEvent gs (x .name) (v .item)) ts)) (note 22 g (v .place) 0)) 0 (x .variants))
       (p .of h (x .variants) (c .variants-are g x e));
 }
 

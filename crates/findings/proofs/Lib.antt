@@ -50,3 +50,5 @@ pub mod AlikeLaws
 pub mod OrderLaws
 pub mod StateTurns
 pub mod DeadLaws
+pub mod ReachLaws
+pub mod UnledLaws

@@ -29,6 +29,7 @@ mod touch;
 mod transition;
 mod unused;
 mod uses;
+mod walk;
 mod warnings;
 mod whole;
 

@@ -173,7 +173,7 @@ fn open_printed(
 }
 
 // The first enum called State of a module.
-fn states_of(doc: &[u8], places: &[usize]) -> Found
+fn states_of<'a>(doc: &'a [u8], places: &'a [usize]) -> Found
     ensures { λ r. ⌜ FirstStates (now (doc .entry)) (getD (now (places .entry)) 3 0) r ⌝ }
 {
     let enums = word(places, 3);
@@ -181,12 +181,12 @@ fn states_of(doc: &[u8], places: &[usize]) -> Found
 }
 
 // Both walks over a module whose fields' places are known; the tables of names are filled anew.
-fn walk_named(
-    doc: &[u8],
+fn walk_named<'a>(
+    doc: &'a [u8],
     owner: u32,
-    places: &[usize],
-    rows: &[usize],
-    prints: &[u32],
+    places: &'a [usize],
+    rows: &'a [usize],
+    prints: &'a [u32],
     count: u8,
     table: &mut [usize],
     enums: &mut [usize],
