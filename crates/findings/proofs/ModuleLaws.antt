@@ -28,7 +28,7 @@ use Rattle.findings.specs.Promises.{ClaimsSet, FirstStates, NotesOpening
 use Rattle.findings.specs.PairPromises.{Printed, pairNotes, NotesPairs}
 use Rattle.findings.specs.WarningPromises.{NotesUnreachable, NotesDead, NotesUnused, NotesImpossible}
 use Rattle.findings.specs.Walks.{WalksNamed, WalksModule}
-use Rattle.findings.specs.ModulePromises.{Names, NotesFore, NotesMost, NotesClosing, NotesErrors, NotesWarnings}
+use Rattle.findings.specs.ModulePromises.{Names, NotesFore, NotesMost, NotesClosing, NotesErrors, NotesDoubts, NotesWarnings}
 use Rattle.findings.specs.declared.module.Named.{Named}
 use Rattle.findings.specs.declared.rows.Listed.{Listed}
 use Rattle.findings.proofs.NoteLaws.{note-then, note-as}
@@ -97,31 +97,42 @@ pub errors-noted : (s : List ℕ) (owner : ℕ) {o o₁ o′ : List ℕ} {skip n
 unfolding errors
 errors-noted s owner table table′ vars x t w = record { of = λ m g rs ps e h f c. note-then owner (x .of m g rs ps e h f) (w .of m g h (rw t f) c) }
 
-pub doubts-noted : (s : List ℕ) (owner : ℕ) {o o₁ o₂ o₃ o₄ o′ : List ℕ} {skip n a b c d r : ℕ} {places rows prints : List ℕ} {found : Found} {count p₄ p₅ : ℕ} → p₄ ≡ getD places 4 0 → NotesUnreachable s owner o skip n a o₁ rows count prints found p₄ → p₅ ≡ getD places 5 0 → NotesDead s owner o₁ skip a b o₂ rows count p₅ → NotesUnused s owner o₂ skip b c o₃ rows count places → NotesPairs s owner o₃ skip c d o₄ rows prints count true → NotesImpossible s owner o₄ skip d r o′ rows count → NotesWarnings s owner o skip n r o′ places found rows prints count
-unfolding warnings pairNotes
-doubts-noted s owner i x j y z u v = record {
+pub doubts-noted : (s : List ℕ) (owner : ℕ) {o o₁ o₂ o′ : List ℕ} {skip n a b r : ℕ} {places rows prints : List ℕ} {found : Found} {count p₄ p₅ : ℕ} → p₄ ≡ getD places 4 0 → NotesUnreachable s owner o skip n a o₁ rows count prints found p₄ → p₅ ≡ getD places 5 0 → NotesDead s owner o₁ skip a b o₂ rows count p₅ → NotesUnused s owner o₂ skip b r o′ rows count places → NotesDoubts s owner o skip n r o′ places found rows prints count
+doubts-noted s owner i x j y z = record {
   of = λ m g rs ps e h.
       note-then owner
       (note-then owner
-      (note-then owner
-      (note-then owner
       (x .of (states m) (m .initial-state) (m .transitions) h (moved i (g .initial-state-is)) rs ps e)
       (y .of (m .events) (m .transitions) (moved j (g .events-are)) rs e))
-      (z .of m g rs e))
-      (u .of (m .transitions) rs ps e))
-      (v .of (m .transitions) rs e);
+      (z .of m g rs e);
 }
 
+pub warnings-noted : (s : List ℕ) (owner : ℕ) {o o₁ o₂ o′ : List ℕ} {skip n a b r : ℕ} {places rows prints : List ℕ} {found : Found} {count : ℕ} → NotesDoubts s owner o skip n a o₁ places found rows prints count → NotesPairs s owner o₁ skip a b o₂ rows prints count true → NotesImpossible s owner o₂ skip b r o′ rows count → NotesWarnings s owner o skip n r o′ places found rows prints count
+unfolding warnings pairNotes
+warnings-noted s owner x u v = record {
+  of = λ m g rs ps e h. note-then owner (note-then owner (x .of m g rs ps e h) (u .of (m .transitions) rs ps e)) (v .of (m .transitions) rs e);
+}
+
+pub states-at : (s places : List ℕ) {p : ℕ} {found : Found} → p ≡ getD places 3 0 → FirstStates s p found → FirstStates s (getD places 3 0) found
+states-at s places {found} e x = subst (λ (k : ℕ). FirstStates s k found) e x
+
+-- the tables of names lie within their words
+pub enums-few : (s places table enums properties : List ℕ) {t : Named} → Names s places t table enums properties → t .enums ≤ 510
+enums-few s places table enums properties w = w .few-enums
+
+pub claims-few : (s places table enums properties : List ℕ) {t : Named} → Names s places t table enums properties → t .claims ≤ 1020
+claims-few s places table enums properties w = w .few-claims
+
 -- the tables and then both walks
-pub named-walked : (s : List ℕ) (owner : ℕ) {o o′ p p′ : List ℕ} {skip n r leave k q : ℕ} {places rows prints : List ℕ} (table enums properties : List ℕ) {found : Found} {count : ℕ} (t : Named) → FirstStates s (getD places 3 0) found → Names s places t table enums properties → NotesErrors s owner o skip n r o′ places found rows prints count (take (2 * t .vars) table) (take (t .enums - 0) enums) (take (t .claims - 0) properties) → NotesWarnings s owner p leave k q p′ places found rows prints count → WalksNamed s o skip n r o′ p leave k q p′ owner places rows prints count
+pub named-walked : (s : List ℕ) (owner : ℕ) {o o′ p p′ : List ℕ} {skip n r leave k q : ℕ} {places rows prints : List ℕ} (table enums properties : List ℕ) {found : Found} {count : ℕ} (v a b : ℕ) → FirstStates s (getD places 3 0) found → Names s places (record { vars = v; enums = a; claims = b }) table enums properties → NotesErrors s owner o skip n r o′ places found rows prints count (take (2 * v) table) (take (a - 0) enums) (take (b - 0) properties) → NotesWarnings s owner p leave k q p′ places found rows prints count → WalksNamed s o skip n r o′ p leave k q p′ owner places rows prints count
 unfolding states
-named-walked s owner table enums properties {found} t z w u v = record {
+named-walked s owner table enums properties {found} v a b z w u y = record {
   of = λ m B g rs ps e.
       let c = z .of (m .enums) (g .enums-are) in
       let d = w .of m B g in
-      let i : t .enums - 0 ≡ t .enums = omega arith in
-      let j : t .claims - 0 ≡ t .claims = omega arith in
-      (u .of m g rs ps e c (rw i (d .agree)) (rw j (d .claims-are)), v .of m g rs ps e c);
+      let i : a - 0 ≡ a = omega arith in
+      let j : b - 0 ≡ b = omega arith in
+      (u .of m g rs ps e c (rw i (d .agree)) (rw j (d .claims-are)), y .of m g rs ps e c);
 }
 
 pub module-walked : (s : List ℕ) (owner at : ℕ) {o o′ p p′ : List ℕ} {skip n r leave k q : ℕ} {l : Listed} {places rows prints : List ℕ} → Opens s at l places rows → Printed s rows (l .count) prints → WalksNamed s o skip n r o′ p leave k q p′ owner places rows prints (l .count) → WalksModule s o skip n r o′ p leave k q p′ owner at (l .end)

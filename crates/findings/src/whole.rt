@@ -1,6 +1,5 @@
 // The walk over a document's modules: errors go to one buffer and warnings to another.
 use crate::errors::note_errors;
-use crate::module::Named;
 use crate::module::fill_names;
 use crate::module::open_module;
 use crate::prints::fill_prints;
@@ -19,7 +18,7 @@ ghost use lib.ListN.{length, getD, take};
 ghost use Rattle.findings.specs.Scene.{Opens};
 ghost use Rattle.findings.specs.Promises.{FirstStates};
 ghost use Rattle.findings.specs.PairPromises.{Printed};
-ghost use Rattle.findings.specs.ModulePromises.{NotesErrors, NotesWarnings};
+ghost use Rattle.findings.specs.ModulePromises.{Names, NotesErrors, NotesWarnings};
 ghost use Rattle.findings.specs.Walks.{WalksNamed, WalksModule, WalksModules, WalksAll};
 
 // The next number of an error and of a warning.
@@ -89,7 +88,7 @@ fn judge_module<'a>(
     Totals { errors, warnings }
 }
 
-// The same by how many words the tables take.
+// The same, where the tables take a words of enums and b of properties and assumptions.
 fn judge_named<'a>(
     doc: &'a [u8],
     places: &'a [usize],
@@ -98,7 +97,9 @@ fn judge_named<'a>(
     count: u8,
     found: Found,
     table: &mut [usize],
-    named: Named,
+    vars: u8,
+    a: usize,
+    b: usize,
     enums: &'a [usize],
     claims: &'a [usize],
     out: &mut [u32],
@@ -111,18 +112,16 @@ fn judge_named<'a>(
 ) -> Totals
     requires { ⌜ 768 ≤ length (now prints) ⌝ }
     requires { ⌜ 1020 ≤ length (now table) ⌝ }
-    requires { ⌜ named .enums ≤ length (now enums) ⌝ }
-    requires { ⌜ named .claims ≤ length (now claims) ⌝ }
-    requires { ⌜ named .claims ≤ 1020 ⌝ }
+    requires { ⌜ a ≤ length (now enums) ⌝ }
+    requires { ⌜ b ≤ length (now claims) ⌝ }
+    requires { ⌜ b ≤ 1020 ⌝ }
     requires { ⌜ n + 33295864 ≤ 2 ^ 40 ⌝ }
     requires { ⌜ k + 33228540 ≤ 2 ^ 40 ⌝ }
-    ensures { λ r. ⌜ NotesErrors (now (doc .entry)) owner (now (out .entry)) skip n (r .errors) (now (out .exit)) (now (places .entry)) found (now (rows .entry)) (now (prints .entry)) count (take (2 * named .vars) (now (table .entry))) (take (named .enums - 0) (now (enums .entry))) (take (named .claims - 0) (now (claims .entry))) ⌝ }
+    ensures { λ r. ⌜ NotesErrors (now (doc .entry)) owner (now (out .entry)) skip n (r .errors) (now (out .exit)) (now (places .entry)) found (now (rows .entry)) (now (prints .entry)) count (take (2 * vars) (now (table .entry))) (take (a - 0) (now (enums .entry))) (take (b - 0) (now (claims .entry))) ⌝ }
     ensures { λ r. ⌜ NotesWarnings (now (doc .entry)) owner (now (aside .entry)) leave k (r .warnings) (now (aside .exit)) (now (places .entry)) found (now (rows .entry)) (now (prints .entry)) count ⌝ }
     ensures { λ r. ⌜ r .errors ≤ n + 33295864 ⌝ }
     ensures { λ r. ⌜ r .warnings ≤ k + 33228540 ⌝ }
 {
-    let a = named.enums;
-    let b = named.claims;
     let known = &enums[0..a];
     let listed = &claims[0..b];
     judge_module(
@@ -133,7 +132,7 @@ fn judge_named<'a>(
         count,
         found,
         table,
-        named.vars,
+        vars,
         known,
         listed,
         out,
@@ -180,6 +179,40 @@ fn states_of<'a>(doc: &'a [u8], places: &'a [usize]) -> Found
     first_states(doc, enums)
 }
 
+// The first enum called State, how many variables there are, and how many words the tables of names take.
+pub struct Known {
+    pub found: Found,
+    pub vars: u8,
+    pub enums: usize,
+    pub claims: usize,
+}
+
+// Fills the tables of names of a module whose fields' places are known.
+fn name_module<'a>(
+    doc: &'a [u8],
+    places: &'a [usize],
+    table: &mut [usize],
+    enums: &mut [usize],
+    claims: &mut [usize],
+) -> Known
+    requires { ⌜ 510 ≤ length (now table) ⌝ }
+    requires { ⌜ 510 ≤ length (now enums) ⌝ }
+    requires { ⌜ length (now claims) ≡ 1020 ⌝ }
+    ensures { λ r. ⌜ FirstStates (now (doc .entry)) (getD (now (places .entry)) 3 0) (r .found) ⌝ }
+    ensures { λ r. ⌜ Names (now (doc .entry)) (now (places .entry)) (record { vars = r .vars; enums = r .enums; claims = r .claims }) (now (table .exit)) (now (enums .exit)) (now (claims .exit)) ⌝ }
+    ensures { λ r. ⌜ r .enums ≤ 510 ⌝ }
+    ensures { λ r. ⌜ r .claims ≤ 1020 ⌝ }
+{
+    let found = states_of(doc, places);
+    let named = fill_names(doc, places, table, enums, claims);
+    Known {
+        found,
+        vars: named.vars,
+        enums: named.enums,
+        claims: named.claims,
+    }
+}
+
 // Both walks over a module whose fields' places are known; the tables of names are filled anew.
 fn walk_named<'a>(
     doc: &'a [u8],
@@ -208,8 +241,8 @@ fn walk_named<'a>(
     ensures { λ r. ⌜ r .errors ≤ n + 33295864 ⌝ }
     ensures { λ r. ⌜ r .warnings ≤ k + 33228540 ⌝ }
 {
-    let found = states_of(doc, places);
-    let named = fill_names(doc, places, table, enums, claims);
+    let known = name_module(doc, places, table, enums, claims);
+    let found = known.found;
     judge_named(
         doc,
         places,
@@ -218,7 +251,9 @@ fn walk_named<'a>(
         count,
         found,
         table,
-        named,
+        known.vars,
+        known.enums,
+        known.claims,
         enums,
         claims,
         out,
@@ -284,4 +319,71 @@ fn walk_module(
         warnings: totals.warnings,
         end: listed.end,
     }
+}
+
+// Both walks over each module of the list at a place.
+fn walk_modules(
+    doc: &[u8],
+    at: usize,
+    places: &mut [usize],
+    rows: &mut [usize],
+    prints: &mut [u32],
+    table: &mut [usize],
+    enums: &mut [usize],
+    claims: &mut [usize],
+    out: &mut [u32],
+    skip: usize,
+    n: usize,
+    aside: &mut [u32],
+    leave: usize,
+    k: usize,
+) -> Totals
+    requires { ⌜ 11 ≤ length (now places) ⌝ }
+    requires { ⌜ 2040 ≤ length (now rows) ⌝ }
+    requires { ⌜ 768 ≤ length (now prints) ⌝ }
+    requires { ⌜ 1020 ≤ length (now table) ⌝ }
+    requires { ⌜ 510 ≤ length (now enums) ⌝ }
+    requires { ⌜ length (now claims) ≡ 1020 ⌝ }
+    requires { ⌜ n + 532733824 ≤ 2 ^ 40 ⌝ }
+    requires { ⌜ k + 531656640 ≤ 2 ^ 40 ⌝ }
+    ensures { λ r. ⌜ WalksModules (now (doc .entry)) (now (out .entry)) skip n (r .errors) (now (out .exit)) (now (aside .entry)) leave k (r .warnings) (now (aside .exit)) at ⌝ }
+    ensures { λ r. ⌜ r .errors ≤ n + 532733824 ⌝ }
+    ensures { λ r. ⌜ r .warnings ≤ k + 531656640 ⌝ }
+{
+    let c = Cursor { at };
+    let a = c.count(doc, 16);
+    let Answer::Got(count, first) = a else {
+        return Totals {
+            errors: n,
+            warnings: k,
+        };
+    };
+    let mut here = first.at;
+    let mut errors = n;
+    let mut warnings = k;
+    let mut i: u64 = 0;
+    while i < count {
+        let passed = walk_module(
+            doc,
+            here,
+            i as u32,
+            places,
+            rows,
+            prints,
+            table,
+            enums,
+            claims,
+            out,
+            skip,
+            errors,
+            aside,
+            leave,
+            warnings,
+        );
+        here = passed.end;
+        errors = passed.errors;
+        warnings = passed.warnings;
+        i += 1;
+    }
+    Totals { errors, warnings }
 }

@@ -1,7 +1,7 @@
 -- One after another.
 use borrow.Author.Needs.{needs}
 use native.Mathlib.Omega.{arith}
-use Rattle.findings.proofs.ModuleLaws.{doubts-noted}
+use Rattle.findings.proofs.ModuleLaws.{warnings-noted}
 use Rattle.findings.proofs.warnings.note_warnings.Statement.{statement}
 use Rattle.findings.proofs.warnings.note_warnings.Tie as tie
 
@@ -12,9 +12,5 @@ note-warnings-spec =
     (λ c κs. search needs)
     (λ c κs. search needs)
     (λ c κs. search needs)
-    (λ c κs. search needs)
-    (λ c κs. search needs)
-    (λ c κs. search needs)
-    (λ c κs. omega arith)
     (λ c. search needs)
-    (λ c. (search doubts-noted, omega arith)))
+    (λ c. (search warnings-noted, omega arith)))
