@@ -2,6 +2,7 @@
 //
 // `specs/` says what is right, over the document's content; `proofs/` says why the code gives it.
 mod by_state;
+mod call;
 mod cause;
 mod claims;
 mod clash;

@@ -387,3 +387,45 @@ fn walk_modules(
     }
     Totals { errors, warnings }
 }
+
+// Both walks over a whole document.
+pub(crate) fn walk_all(
+    doc: &[u8],
+    out: &mut [u32],
+    skip: usize,
+    n: usize,
+    aside: &mut [u32],
+    leave: usize,
+    k: usize,
+) -> Totals
+    requires { ⌜ n + 532733824 ≤ 2 ^ 40 ⌝ }
+    requires { ⌜ k + 531656640 ≤ 2 ^ 40 ⌝ }
+    ensures { λ r. ⌜ WalksAll (now (doc .entry)) (now (out .entry)) skip n (r .errors) (now (out .exit)) (now (aside .entry)) leave k (r .warnings) (now (aside .exit)) ⌝ }
+    ensures { λ r. ⌜ r .errors ≤ n + 532733824 ⌝ }
+    ensures { λ r. ⌜ r .warnings ≤ k + 531656640 ⌝ }
+{
+    let mut places = [0usize; 11];
+    let mut rows = [0usize; 2040];
+    let mut prints = [0u32; 768];
+    let mut table = [0usize; 1020];
+    let mut enums = [0usize; 510];
+    let mut claims = [0usize; 1020];
+    let version = after_head(doc, 0);
+    let modules = after(doc, version);
+    walk_modules(
+        doc,
+        modules,
+        &mut places,
+        &mut rows,
+        &mut prints,
+        &mut table,
+        &mut enums,
+        &mut claims,
+        out,
+        skip,
+        n,
+        aside,
+        leave,
+        k,
+    )
+}
