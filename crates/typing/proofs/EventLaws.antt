@@ -1,9 +1,10 @@
 -- What each step of the judging of an event pattern gives, for whatever reads there.
-use Prim.Native.Nat.{ℕ}
+use Prim.Native.Nat.{ℕ, _≤_}
 use mathlib.Core.Path.{_≡_, refl, sym, ap, _∙_}
 use mathlib.Core.Bool.{Bool, true, false}
 use mathlib.Core.List.{List, [], _∷_}
 use mathlib.Core.Option.{Option, none, some}
+use native.Mathlib.Omega.{arith}
 use lib.ListN.{length, getD}
 use lib.Dec.{eqb}
 use borrow.Author.Tests.{eq-eqb, ne-eqb}
@@ -54,6 +55,9 @@ use Rattle.typing.proofs.EnvLaws.{after-is, fields-head}
 binds-alone : (s table : List ℕ) (k : ℕ) {c : Cause} {r : Bindings} {e : causes.Cause} → r ≡ blamed c → causeOf s c ≡ e → Binds s table k (judged (blame alone (some e))) r table
 unfolding blame blameOf withinOf
 binds-alone s table k q e = rw q (record { fault = rw e; pairs = []; are = none-bound; many = refl; words = refl })
+
+pub alone-few : {c : Cause} {r : Bindings} → r ≡ blamed c → r .words ≤ 510
+alone-few q = rw q (omega arith)
 
 binds-nothing : (s table : List ℕ) (k : ℕ) → Binds s table k (judged none) (record { blame = blames.Nothing; words = 0 }) table
 unfolding blameOf

@@ -183,6 +183,7 @@ pub record Turn (s : List ℕ) (k : ℕ) (table : List ℕ) (whole : Judged) (co
 pub record Walking (s : List ℕ) (at at′ k : ℕ) (table : List ℕ) (count first i p f j : ℕ) (now : List ℕ) : Type 0 where
   pub size : length now ≡ length table
   pub few : count ≤ maxList
+  pub upto : i ≤ count
   pub room : j ≤ 2 * i
   pub place : p ≡ stepped s first i
   pub of : (xs : List PatternField) (n : ℕ) (fs : List FieldDecl) (m : ℕ) → listOf maxList readPatternField s at ≡ ok xs n → listOf maxList readFieldDecl s at′ ≡ ok fs m → length fs ≡ length xs → Left s k table (judgeFields [] fs xs) count first i p f j now n m
@@ -193,6 +194,7 @@ module _ (s : List ℕ) (at at′ k : ℕ) (table : List ℕ) where
   fields-start {c} {first} {f} e h g = record {
     size = refl;
     few = e .few;
+    upto = omega arith;
     room = omega arith;
     place = refl;
     of = λ xs n fs m q r z.
@@ -273,6 +275,7 @@ module _ (s : List ℕ) (at at′ k : ℕ) (table : List ℕ) where
       fields-more y z past past′ = record {
         size = z ∙ g .size;
         few = g .few;
+        upto = omega arith;
         room = let q = g .room in let t = o .few in omega arith;
         place = past .is ∙ ap (afterItem s) (g .place) ∙ ap (stepped s first) (sym (add-one i));
         of = λ xs n fs m q u z.

@@ -13,7 +13,7 @@ use crate::table::after;
 use reading::Answer;
 use reading::Cursor;
 use reading::text_at;
-ghost use Prim.Native.Nat.{_+_};
+ghost use Prim.Native.Nat.{_+_, _≤_};
 ghost use mathlib.Core.Path.{_≡_};
 ghost use lib.ListN.{set};
 ghost use Rattle.typing.specs.Table.{afterHead, Past};
@@ -155,6 +155,7 @@ pub(crate) fn judge_fields(
     k: usize,
 ) -> Bindings
     ensures { λ r. ⌜ JudgesFields (now (doc .entry)) at fields (now (table .entry)) k r (now (table .exit)) ⌝ }
+    ensures { λ r. ⌜ r .words ≤ 510 ⌝ }
 {
     let count = count_at(doc, at);
     let first = after_head(doc, at);

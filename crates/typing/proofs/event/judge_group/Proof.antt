@@ -1,6 +1,7 @@
 -- By the first variant of its name.
+use native.Mathlib.Omega.{arith}
 use borrow.Author.Needs.{needs}
-use Rattle.typing.proofs.EventLaws.{group-none, group-variant}
+use Rattle.typing.proofs.EventLaws.{alone-few, group-none, group-variant}
 use Rattle.typing.proofs.event.judge_group.Statement.{statement}
 use Rattle.typing.proofs.event.judge_group.Tie as tie
 
@@ -15,7 +16,7 @@ judge-group-spec =
     (λ c. search needs)
     (λ c. search needs)
     (λ c κs. search needs)
-    (λ c. search group-none)
+    (λ c. (search group-none, search alone-few))
     (λ c κs. search needs)
     (λ c. search needs)
-    (λ c. search group-variant))
+    (λ c. (search group-variant, omega arith)))

@@ -1,6 +1,7 @@
 -- By the two counts.
+use native.Mathlib.Omega.{arith}
 use borrow.Author.Needs.{needs}
-use Rattle.typing.proofs.EventLaws.{struct-count, struct-fields}
+use Rattle.typing.proofs.EventLaws.{alone-few, struct-count, struct-fields}
 use Rattle.typing.proofs.event.judge_struct.Statement.{statement}
 use Rattle.typing.proofs.event.judge_struct.Tie as tie
 
@@ -14,7 +15,7 @@ judge-struct-spec =
     (λ c κs. search needs)
     (λ c κs. search needs)
     (λ c κs. search needs)
-    (λ c. search struct-count)
+    (λ c. (search struct-count, search alone-few))
     (λ c κs. search needs)
     (λ c. search needs)
-    (λ c. search struct-fields))
+    (λ c. (search struct-fields, omega arith)))

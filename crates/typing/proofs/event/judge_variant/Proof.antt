@@ -1,6 +1,7 @@
 -- By whether each has fields.
+use native.Mathlib.Omega.{arith}
 use borrow.Author.Needs.{needs}
-use Rattle.typing.proofs.EventLaws.{variant-structs, variant-with, variant-without, variant-units}
+use Rattle.typing.proofs.EventLaws.{alone-few, variant-structs, variant-with, variant-without, variant-units}
 use Rattle.typing.proofs.event.judge_variant.Statement.{statement}
 use Rattle.typing.proofs.event.judge_variant.Tie as tie
 
@@ -12,11 +13,11 @@ judge-variant-spec =
     (λ c κs. search needs)
     (λ c κs. search needs)
     (λ c. search needs)
-    (λ c. search variant-structs)
+    (λ c. (search variant-structs, omega arith))
     (λ c κs. search needs)
     (λ c κs. search needs)
-    (λ c. search variant-with)
+    (λ c. (search variant-with, search alone-few))
     (λ c κs. search needs)
     (λ c κs. search needs)
-    (λ c. search variant-without)
-    (λ c. search variant-units))
+    (λ c. (search variant-without, search alone-few))
+    (λ c. (search variant-units, omega arith)))

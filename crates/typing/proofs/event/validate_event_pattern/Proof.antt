@@ -1,6 +1,7 @@
 -- By the first group of its name, then by its variant, which may be absent.
+use native.Mathlib.Omega.{arith}
 use borrow.Author.Needs.{needs}
-use Rattle.typing.proofs.EventLaws.{pattern-none, pattern-bare, pattern-variant}
+use Rattle.typing.proofs.EventLaws.{alone-few, pattern-none, pattern-bare, pattern-variant}
 use Rattle.typing.proofs.event.validate_event_pattern.Statement.{statement}
 use Rattle.typing.proofs.event.validate_event_pattern.Tie as tie
 
@@ -14,10 +15,10 @@ validate-event-pattern-spec =
     (λ c. search needs)
     (λ c. search needs)
     (λ c κs. search needs)
-    (λ c. search pattern-none)
+    (λ c. (search pattern-none, search alone-few))
     (λ c κs. search needs)
     (λ c κs. search needs)
-    (λ c. search pattern-bare)
+    (λ c. (search pattern-bare, omega arith))
     (λ c κs. search needs)
     (λ c. search needs)
-    (λ c. search pattern-variant))
+    (λ c. (search pattern-variant, omega arith)))
