@@ -1,5 +1,5 @@
 -- What each step of the judging of an event pattern gives, for whatever reads there.
-use Prim.Native.Nat.{ℕ, _≤_}
+use Prim.Native.Nat.{ℕ}
 use mathlib.Core.Path.{_≡_, refl, sym, ap, _∙_}
 use mathlib.Core.Bool.{Bool, true, false}
 use mathlib.Core.List.{List, [], _∷_}
@@ -38,7 +38,7 @@ use Rattle.typing.specs.Patterns.{judged, declaredName, patternVariantNa
 use Rattle.typing.specs.Means.{causeOf, withinOf, blameOf}
 use Rattle.typing.specs.Table.{placeAfter, afterItem, afterHead, afterTag, Past}
 use Rattle.typing.specs.First.{FoundAt, found-here, found-nothing, groupName, FirstGroup, FirstVariant}
-use Rattle.typing.specs.Blames.{none-bound, Binds, JudgesPattern}
+use Rattle.typing.specs.Blames.{none-bound, Binds, Spares, JudgesPattern}
 use Rattle.typing.specs.Fields.{countOf, Counted, JudgesFields}
 use Rattle.typing.specs.Event.{blamed, structOf, structAt, JudgesStruct, JudgesVariant, JudgesGroup}
 use Rattle.typing.specs.declared.cause.Cause.{Cause}
@@ -56,8 +56,11 @@ binds-alone : (s table : List ℕ) (k : ℕ) {c : Cause} {r : Bindings} {e : cau
 unfolding blame blameOf withinOf
 binds-alone s table k q e = rw q (record { fault = rw e; pairs = []; are = none-bound; many = refl; words = refl })
 
-pub alone-few : {c : Cause} {r : Bindings} → r ≡ blamed c → r .words ≤ 510
-alone-few q = rw q (omega arith)
+pub alone-spares : (table : List ℕ) (k : ℕ) {c : Cause} {r : Bindings} → r ≡ blamed c → Spares table k r table
+alone-spares table k q = rw q (record { few = omega arith; kept = refl })
+
+pub nothing-spares : (table : List ℕ) (k : ℕ) → Spares table k (record { blame = blames.Nothing; words = 0 }) table
+nothing-spares table k = record { few = omega arith; kept = refl }
 
 binds-nothing : (s table : List ℕ) (k : ℕ) → Binds s table k (judged none) (record { blame = blames.Nothing; words = 0 }) table
 unfolding blameOf

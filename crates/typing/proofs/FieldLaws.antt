@@ -6,8 +6,8 @@ use mathlib.Core.List.{List, [], _∷_}
 use mathlib.Core.Option.{Option, none, some}
 use native.Mathlib.Omega.{arith}
 use native.Mathlib.Numerals.{add-one}
-use lib.ListN.{length, getD, set}
-use lib.Seq.{set-out}
+use lib.ListN.{length, getD, set, take}
+use lib.Seq.{set-out, take-set-le}
 use lib.Dec.{eqb}
 use borrow.Author.Tests.{eq-eqb, ne-eqb}
 use Rattle.reading.specs.Read.{ok, pick}
@@ -203,6 +203,7 @@ module _ (s : List ℕ) (at decl first i : ℕ) {name : Naming} (table : List �
   unfolding namedOf nameIn judgeField
   judge-unnamed {b} q e = record {
     few = omega arith;
+    kept = refl;
     of = λ x n f m seen g d p. go seen x f (x .name) (sym (ap (namedOf s) q) ∙ a .of x n seen g p) (e .of x n f m g d);
   }
     where
@@ -214,6 +215,7 @@ module _ (s : List ℕ) (at decl first i : ℕ) {name : Naming} (table : List �
   unfolding namedOf nameIn judgeField pick blameOf withinOf causeOf blame
   judge-again {k} q = record {
     few = omega arith;
+    kept = refl;
     of = λ x n f m seen g d p. go seen x f (x .name) (sym (ap (namedOf s) q) ∙ a .of x n seen g p);
   }
     where
@@ -227,6 +229,7 @@ module _ (s : List ℕ) (at decl first i : ℕ) {name : Naming} (table : List �
   unfolding namedOf nameIn judgeField pick bound
   judge-fresh {k} {ty} {table′} {b} q o t e = record {
     few = omega arith;
+    kept = ap (take w) t ∙ take-set-le w (set table w k) (w + 1) ty (omega arith) ∙ take-set-le w table w k (omega arith);
     of = λ x n f m seen g d p.
         let b = type-stands s decl o f m d in
         go seen x f (x .name) (sym (ap (namedOf s) q) ∙ a .of x n seen g p) (e .of x n f m g d) (type-is s ty (f .ty) (b .0) (b .1));

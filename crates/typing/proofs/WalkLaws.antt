@@ -8,8 +8,8 @@ use mathlib.Core.Option.{Option, none, some}
 use native.Mathlib.Omega.{arith}
 use native.Mathlib.Numerals.{add-one}
 use native.Mathlib.Nat.{add-zero}
-use lib.ListN.{length, set, length-append}
-use lib.Seq.{sets}
+use lib.ListN.{length, set, take, length-append}
+use lib.Seq.{sets, take-take}
 use Rattle.reading.specs.Read.{ok, pick}
 use Rattle.reading.specs.Limits.{maxList}
 use Rattle.reading.specs.Text.{Name}
@@ -28,7 +28,7 @@ use Rattle.typing.specs.Env.{Binding}
 use Rattle.typing.specs.Patterns.{patternExprCompatible, Judged, judged, bound, orElse, judgeField, judgeFields}
 use Rattle.typing.specs.Means.{blameOf}
 use Rattle.typing.specs.Table.{placeAfter, afterItem, afterHead, Past}
-use Rattle.typing.specs.Blames.{Bound, none-bound, more-bound, Binds}
+use Rattle.typing.specs.Blames.{Bound, none-bound, more-bound, Binds, Spares}
 use Rattle.typing.specs.Fields.{fieldNamed, namedFrom, Passed, noMore, JudgesField, countOf, Counted, JudgesFields}
 use Rattle.typing.specs.declared.cause.Cause.{Cause}
 use Rattle.typing.specs.declared.cause.Within.{Within}
@@ -185,6 +185,7 @@ pub record Walking (s : List ℕ) (at at′ k : ℕ) (table : List ℕ) (count f
   pub few : count ≤ maxList
   pub upto : i ≤ count
   pub room : j ≤ 2 * i
+  pub kept : take k now ≡ take k table
   pub place : p ≡ stepped s first i
   pub of : (xs : List PatternField) (n : ℕ) (fs : List FieldDecl) (m : ℕ) → listOf maxList readPatternField s at ≡ ok xs n → listOf maxList readFieldDecl s at′ ≡ ok fs m → length fs ≡ length xs → Left s k table (judgeFields [] fs xs) count first i p f j now n m
 
@@ -196,6 +197,7 @@ module _ (s : List ℕ) (at at′ k : ℕ) (table : List ℕ) where
     few = e .few;
     upto = omega arith;
     room = omega arith;
+    kept = refl;
     place = refl;
     of = λ xs n fs m q r z.
         let l = list-at readPatternField s maxList at xs n q in
@@ -227,6 +229,9 @@ module _ (s : List ℕ) (at at′ k : ℕ) (table : List ℕ) where
         go [] [] seen {made} u v b e = subst (λ (o : Judged). Binds s table k o (record { blame = Nothing; words = j }) now) (sym (joined-none made (sym (b .fault))) ∙ e) b
         go [] (x ∷ xs) seen u v b e = absurd (omega arith)
         go (f ∷ fs) xs seen u v b e = absurd (omega arith)
+
+    pub done-spares : Spares table k (record { blame = Nothing; words = j }) now
+    done-spares = record { few = omega (arith, g .few, g .upto, g .room); kept = g .kept }
 
     module _ (h : i < count) {r : Bindings} {now′ : List ℕ} (o : JudgesField s p f first i now (k + j) r now′) where
       -- the field whose turn it is, and those after it
@@ -261,6 +266,14 @@ module _ (s : List ℕ) (at at′ k : ℕ) (table : List ℕ) where
                 same = z;
               }
 
+      turn-keeps : take k now′ ≡ take k table
+      turn-keeps =
+          let h : k ≤ k + j = omega arith in
+          sym (take-take k (k + j) now′ h) ∙ ap (take k) (o .kept) ∙ take-take k (k + j) now h ∙ g .kept
+
+      pub stop-spares : Spares table k (record { blame = r .blame; words = j + r .words }) now′
+      stop-spares = record { few = omega (arith, g .few, g .room, o .few); kept = turn-keeps }
+
       pub fields-stop : {w : Within} {c : Cause} → r .blame ≡ Found w c → JudgesFields s at at′ table k (record { blame = r .blame; words = j + r .words }) now′
       unfolding blameOf
       fields-stop y = record {
@@ -277,6 +290,7 @@ module _ (s : List ℕ) (at at′ k : ℕ) (table : List ℕ) where
         few = g .few;
         upto = omega arith;
         room = let q = g .room in let t = o .few in omega arith;
+        kept = turn-keeps;
         place = past .is ∙ ap (afterItem s) (g .place) ∙ ap (stepped s first) (sym (add-one i));
         of = λ xs n fs m q u z.
             let t = turn (g .of xs n fs m q u z) in

@@ -1,8 +1,8 @@
 -- What the judging of a whole pattern and of an output promises: for whatever reads there, its answer is the definition's.
-use Prim.Native.Nat.{ℕ}
+use Prim.Native.Nat.{ℕ, _≤_}
 use mathlib.Core.Path.{_≡_}
 use mathlib.Core.List.{List, [], _∷_}
-use lib.ListN.{length}
+use lib.ListN.{length, take}
 use lib.Seq.{sets}
 use Rattle.reading.specs.Read.{ok}
 use Rattle.reading.specs.Limits.{maxList}
@@ -32,6 +32,11 @@ pub record Binds (s table : List ℕ) (k : ℕ) (j : Judged) (r : Bindings) (tab
   pub are : Bound s pairs (j .bound)
   pub many : r .words ≡ length pairs
   pub words : table′ ≡ sets table k pairs
+
+-- whatever stands there, few words are taken, and those before word k keep their contents
+pub record Spares (table : List ℕ) (k : ℕ) (r : Bindings) (table′ : List ℕ) : Type 0 where
+  pub few : r .words ≤ 510
+  pub kept : take k table′ ≡ take k table
 
 -- the pattern at a place, by the groups of events at another
 pub record JudgesPattern (s : List ℕ) (at events : ℕ) (table : List ℕ) (k : ℕ) (r : Bindings) (table′ : List ℕ) : Type 0 where

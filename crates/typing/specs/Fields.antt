@@ -4,7 +4,7 @@ use mathlib.Core.Path.{_≡_}
 use mathlib.Core.List.{List, []}
 use mathlib.Core.Bool.{Bool, true, false}
 use mathlib.Core.Option.{Option, none, some}
-use lib.ListN.{length, getD}
+use lib.ListN.{length, getD, take}
 use lib.Dec.{eqb}
 use Rattle.reading.specs.Read.{Read, ok, refused, pick}
 use Rattle.reading.specs.Limits.{maxList}
@@ -66,6 +66,7 @@ noMore names = judged none
 -- the field alone, by the fields before it; its bindings from word w on
 pub record JudgesField (s : List ℕ) (at decl first i : ℕ) (table : List ℕ) (w : ℕ) (r : Bindings) (table′ : List ℕ) : Type 0 where
   pub few : r .words ≤ 2
+  pub kept : take w table′ ≡ take w table
   pub of : (x : PatternField) (n : ℕ) (f : FieldDecl) (m : ℕ) (seen : List Name) → readPatternField s at ≡ ok x n → readFieldDecl s decl ≡ ok f m → Passed s first i seen → Binds s table w (judgeField noMore seen f x (x .name)) r table′
 
 -- how many entries the list at a place has

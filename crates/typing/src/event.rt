@@ -16,10 +16,9 @@ use crate::table::after;
 use reading::Cursor;
 use reading::Tagged;
 use reading::text_at;
-ghost use Prim.Native.Nat.{_≤_};
 ghost use mathlib.Core.Path.{_≡_};
 ghost use Rattle.typing.specs.Table.{afterTag, Past};
-ghost use Rattle.typing.specs.Blames.{JudgesPattern};
+ghost use Rattle.typing.specs.Blames.{Spares, JudgesPattern};
 ghost use Rattle.typing.specs.Event.{blamed, structAt, JudgesStruct, JudgesVariant, JudgesGroup};
 
 // Nothing is bound, for that cause.
@@ -54,7 +53,7 @@ fn fields_at(doc: &[u8], at: usize) -> usize
 // The pattern's variant at a place, of the declared variant at another; both have fields.
 fn judge_struct(doc: &[u8], at: usize, declared: usize, table: &mut [usize], k: usize) -> Bindings
     ensures { λ r. ⌜ JudgesStruct (now (doc .entry)) at declared (now (table .entry)) k r (now (table .exit)) ⌝ }
-    ensures { λ r. ⌜ r .words ≤ 510 ⌝ }
+    ensures { λ r. ⌜ Spares (now (table .entry)) k r (now (table .exit)) ⌝ }
 {
     let given = fields_at(doc, at);
     let due = fields_at(doc, declared);
@@ -69,7 +68,7 @@ fn judge_struct(doc: &[u8], at: usize, declared: usize, table: &mut [usize], k: 
 // The same for any two variants.
 fn judge_variant(doc: &[u8], at: usize, declared: usize, table: &mut [usize], k: usize) -> Bindings
     ensures { λ r. ⌜ JudgesVariant (now (doc .entry)) at declared (now (table .entry)) k r (now (table .exit)) ⌝ }
-    ensures { λ r. ⌜ r .words ≤ 510 ⌝ }
+    ensures { λ r. ⌜ Spares (now (table .entry)) k r (now (table .exit)) ⌝ }
 {
     let due = is_struct(doc, declared);
     if is_struct(doc, at) {
@@ -97,7 +96,7 @@ fn judge_group(
     k: usize,
 ) -> Bindings
     ensures { λ r. ⌜ JudgesGroup (now (doc .entry)) at group name (now (table .entry)) k r (now (table .exit)) ⌝ }
-    ensures { λ r. ⌜ r .words ≤ 510 ⌝ }
+    ensures { λ r. ⌜ Spares (now (table .entry)) k r (now (table .exit)) ⌝ }
 {
     let variant = after_tag(doc, at);
     let f = first_variant(doc, second(doc, group), text_at(doc, variant));
@@ -117,7 +116,7 @@ pub fn validate_event_pattern(
     k: usize,
 ) -> Bindings
     ensures { λ r. ⌜ JudgesPattern (now (doc .entry)) at events (now (table .entry)) k r (now (table .exit)) ⌝ }
-    ensures { λ r. ⌜ r .words ≤ 510 ⌝ }
+    ensures { λ r. ⌜ Spares (now (table .entry)) k r (now (table .exit)) ⌝ }
 {
     let name = after_head(doc, at);
     let f = first_record(doc, events, text_at(doc, name));

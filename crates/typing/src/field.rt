@@ -13,10 +13,11 @@ use crate::table::after;
 use reading::Answer;
 use reading::Cursor;
 use reading::text_at;
-ghost use Prim.Native.Nat.{_+_, _≤_};
+ghost use Prim.Native.Nat.{_+_};
 ghost use mathlib.Core.Path.{_≡_};
 ghost use lib.ListN.{set};
 ghost use Rattle.typing.specs.Table.{afterHead, Past};
+ghost use Rattle.typing.specs.Blames.{Spares};
 ghost use Rattle.typing.specs.Fields.{fieldNamed, namedFrom, Counted, NamesField, FitsField, JudgesField, JudgesFields};
 
 // The name of a pattern's field, by its place: none, one that an earlier field has, or a new one.
@@ -155,7 +156,7 @@ pub(crate) fn judge_fields(
     k: usize,
 ) -> Bindings
     ensures { λ r. ⌜ JudgesFields (now (doc .entry)) at fields (now (table .entry)) k r (now (table .exit)) ⌝ }
-    ensures { λ r. ⌜ r .words ≤ 510 ⌝ }
+    ensures { λ r. ⌜ Spares (now (table .entry)) k r (now (table .exit)) ⌝ }
 {
     let count = count_at(doc, at);
     let first = after_head(doc, at);

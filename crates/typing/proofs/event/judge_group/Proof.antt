@@ -1,7 +1,6 @@
 -- By the first variant of its name.
-use native.Mathlib.Omega.{arith}
 use borrow.Author.Needs.{needs}
-use Rattle.typing.proofs.EventLaws.{alone-few, group-none, group-variant}
+use Rattle.typing.proofs.EventLaws.{alone-spares, group-none, group-variant}
 use Rattle.typing.proofs.event.judge_group.Statement.{statement}
 use Rattle.typing.proofs.event.judge_group.Tie as tie
 
@@ -16,7 +15,7 @@ judge-group-spec =
     (λ c. search needs)
     (λ c. search needs)
     (λ c κs. search needs)
-    (λ c. (search group-none, search alone-few))
+    (λ c. (search group-none, search alone-spares))
     (λ c κs. search needs)
     (λ c. search needs)
-    (λ c. (search group-variant, omega arith)))
+    (λ c. (search group-variant, search needs)))

@@ -1,7 +1,6 @@
 -- By the two counts.
-use native.Mathlib.Omega.{arith}
 use borrow.Author.Needs.{needs}
-use Rattle.typing.proofs.EventLaws.{alone-few, struct-count, struct-fields}
+use Rattle.typing.proofs.EventLaws.{alone-spares, struct-count, struct-fields}
 use Rattle.typing.proofs.event.judge_struct.Statement.{statement}
 use Rattle.typing.proofs.event.judge_struct.Tie as tie
 
@@ -15,7 +14,7 @@ judge-struct-spec =
     (λ c κs. search needs)
     (λ c κs. search needs)
     (λ c κs. search needs)
-    (λ c. (search struct-count, search alone-few))
+    (λ c. (search struct-count, search alone-spares))
     (λ c κs. search needs)
     (λ c. search needs)
-    (λ c. (search struct-fields, omega arith)))
+    (λ c. (search struct-fields, search needs)))

@@ -1,7 +1,6 @@
 -- By whether each has fields.
-use native.Mathlib.Omega.{arith}
 use borrow.Author.Needs.{needs}
-use Rattle.typing.proofs.EventLaws.{alone-few, variant-structs, variant-with, variant-without, variant-units}
+use Rattle.typing.proofs.EventLaws.{nothing-spares, alone-spares, variant-structs, variant-with, variant-without, variant-units}
 use Rattle.typing.proofs.event.judge_variant.Statement.{statement}
 use Rattle.typing.proofs.event.judge_variant.Tie as tie
 
@@ -13,11 +12,11 @@ judge-variant-spec =
     (λ c κs. search needs)
     (λ c κs. search needs)
     (λ c. search needs)
-    (λ c. (search variant-structs, omega arith))
+    (λ c. (search variant-structs, search needs))
     (λ c κs. search needs)
     (λ c κs. search needs)
-    (λ c. (search variant-with, search alone-few))
+    (λ c. (search variant-with, search alone-spares))
     (λ c κs. search needs)
     (λ c κs. search needs)
-    (λ c. (search variant-without, search alone-few))
-    (λ c. (search variant-units, omega arith)))
+    (λ c. (search variant-without, search alone-spares))
+    (λ c. (search variant-units, search nothing-spares)))

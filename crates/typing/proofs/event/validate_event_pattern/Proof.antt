@@ -1,7 +1,6 @@
 -- By the first group of its name, then by its variant, which may be absent.
-use native.Mathlib.Omega.{arith}
 use borrow.Author.Needs.{needs}
-use Rattle.typing.proofs.EventLaws.{alone-few, pattern-none, pattern-bare, pattern-variant}
+use Rattle.typing.proofs.EventLaws.{nothing-spares, alone-spares, pattern-none, pattern-bare, pattern-variant}
 use Rattle.typing.proofs.event.validate_event_pattern.Statement.{statement}
 use Rattle.typing.proofs.event.validate_event_pattern.Tie as tie
 
@@ -15,10 +14,10 @@ validate-event-pattern-spec =
     (λ c. search needs)
     (λ c. search needs)
     (λ c κs. search needs)
-    (λ c. (search pattern-none, search alone-few))
+    (λ c. (search pattern-none, search alone-spares))
     (λ c κs. search needs)
     (λ c κs. search needs)
-    (λ c. (search pattern-bare, omega arith))
+    (λ c. (search pattern-bare, search nothing-spares))
     (λ c κs. search needs)
     (λ c. search needs)
-    (λ c. (search pattern-variant, omega arith)))
+    (λ c. (search pattern-variant, search needs)))

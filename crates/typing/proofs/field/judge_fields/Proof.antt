@@ -2,7 +2,7 @@
 use Prim.Native.Nat.{_-_}
 use native.Mathlib.Omega.{arith}
 use borrow.Author.Needs.{needs}
-use Rattle.typing.proofs.WalkLaws.{Walking, fields-start, fields-done, fields-stop, fields-more}
+use Rattle.typing.proofs.WalkLaws.{Walking, fields-start, fields-done, fields-stop, fields-more, done-spares, stop-spares}
 use Rattle.typing.proofs.field.judge_fields.Statement.{statement}
 use Rattle.typing.proofs.field.judge_fields.Tie as tie
 
@@ -27,11 +27,11 @@ judge-fields-spec =
     (λ c. search needs)
     (λ c. search needs)
     (λ c. search needs)
-    (λ c. (search fields-stop, omega arith))
+    (λ c. (search fields-stop, search stop-spares))
     (λ c κs. search needs)
     (λ c κs. search needs)
     (λ c. omega arith)
     (λ c. omega arith)
     (λ c. search fields-more)
     (λ c. search needs)
-    (λ c. (search fields-done, omega arith)))
+    (λ c. (search fields-done, search done-spares)))
