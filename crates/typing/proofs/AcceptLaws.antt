@@ -3,7 +3,7 @@ use Prim.Native.Nat.{ℕ, _<_, _≤_}
 use mathlib.Core.Path.{_≡_, refl, sym, ap, _∙_}
 use mathlib.Core.Bool.{Bool, true, false}
 use mathlib.Core.List.{List, [], _∷_}
-use mathlib.Core.Option.{Option, none, some}
+use mathlib.Core.Option.{none, some}
 use native.Mathlib.Omega.{arith}
 use lib.ListN.{length}
 use Rattle.reading.specs.Read.{ok, pick}
@@ -14,7 +14,7 @@ use Rattle.reading.specs.Expr.{readPath}
 use Rattle.reading.specs.Combine.{entries}
 use Rattle.reading.specs.Decl.{Ty, readTy}
 use Rattle.reading.specs.Decl as decl
-use Rattle.reading.specs.Pattern.{PatternExpr, readPatternExpr}
+use Rattle.reading.specs.Pattern.{PatternExpr}
 use Rattle.reading.specs.Pattern as pattern
 use Rattle.reading.specs.Skip.{textAt}
 use Rattle.reading.specs.Link.{answer, taggedOf}
@@ -31,7 +31,7 @@ use Rattle.reading.proofs.Answers.{num, out}
 use Rattle.reading.proofs.CaseViews.{ty-at, pattern-expr-at, by-tag}
 use Rattle.reading.proofs.ListViews.{list-at}
 use Rattle.reading.proofs.Walks.{name-text}
-use Rattle.typing.specs.Types.{ExprType, typeToExprType}
+use Rattle.typing.specs.Types.{typeToExprType}
 use Rattle.typing.specs.Causes.{variantPath, variantOnNonEnum}
 use Rattle.typing.specs.Names.{eqName}
 use Rattle.typing.specs.Patterns.{fits, variantOf, patternExprCompatible}

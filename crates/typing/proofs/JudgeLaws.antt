@@ -1,6 +1,6 @@
 -- What each step of the judging of a formula gives, for whatever reads there.
 use Prim.Native.Nat.{ℕ, suc, _-_, _<_, _≤_}
-use mathlib.Core.Path.{_≡_, refl, sym, ap, subst, _∙_}
+use mathlib.Core.Path.{_≡_, refl, sym, ap, _∙_}
 use mathlib.Core.Bool.{Bool, true, false}
 use mathlib.Core.List.{List, [], _∷_}
 use mathlib.Core.Option.{Option, none, some}
@@ -11,8 +11,7 @@ use borrow.Author.Tests.{eq-eqb, ne-eqb}
 use Rattle.reading.specs.Read.{Reader, ok, pick}
 use Rattle.reading.specs.Limits.{maxU64, maxList}
 use Rattle.reading.specs.Item.{readNumber, readCount, readTag}
-use Rattle.reading.specs.Text.{Name, readName}
-use Rattle.reading.specs.Expr.{Expr, readExpr}
+use Rattle.reading.specs.Text.{readName}
 use Rattle.reading.specs.Combine.{entries, listOf, optional}
 use Rattle.reading.specs.Pattern.{PatternField, PatternVariant, Pattern, readPatternField, readPatternVariant, readPattern}
 use Rattle.reading.specs.Formula.{Formula, readFormula}
@@ -26,7 +25,7 @@ use Rattle.reading.specs.declared.item.Answer.the-variants.{Got, Refused}
 use Rattle.reading.specs.declared.item.Tag.{Tag}
 use Rattle.reading.specs.declared.item.Tagged.{Tagged}
 use Rattle.reading.specs.declared.item.Tagged.the-variants as tagged
-use Rattle.reading.proofs.Rules.{no, pick-true, pick-false}
+use Rattle.reading.proofs.Rules.{no}
 use Rattle.reading.proofs.Answers.{num, out}
 use Rattle.reading.proofs.ExprLaws.{name-laws}
 use Rattle.reading.proofs.PatternLaws.{pattern-field-laws}
@@ -37,11 +36,10 @@ use Rattle.typing.specs.Causes as causes
 use Rattle.typing.specs.Causes.{firstOf}
 use Rattle.typing.specs.Rules.{isBool, mustBool}
 use Rattle.typing.specs.Env.{Env, given}
-use Rattle.typing.specs.Typing.{typeExpr}
 use Rattle.typing.specs.Formulas.{fieldsBind, variantBinds, checkPatternGroup, boolCause, typeFormula}
 use Rattle.typing.specs.Means.{tyOf, causeOf, unfitOf}
 use Rattle.typing.specs.Tells.{Ends}
-use Rattle.typing.specs.Table.{placeAfter, afterItem, afterHead, Past}
+use Rattle.typing.specs.Table.{afterItem, afterHead, Past}
 use Rattle.typing.specs.Typed.{Types}
 use Rattle.typing.specs.Shape.{kindOf}
 use Rattle.typing.specs.Judges.{FieldBinds, FieldsBind, VariantBinds, ChecksGroup, TypesFormula, TypesBool, TypesBounded, TypesTwo}
@@ -56,7 +54,7 @@ use Rattle.typing.specs.declared.cause.Typed.the-variants.{Is, Fails}
 use Rattle.typing.specs.declared.rules.Fit.{Fit}
 use Rattle.typing.specs.declared.rules.Fit.the-variants.{Fine, Unfit}
 use Rattle.typing.proofs.TableLaws.{tag-was, tag-out}
-use Rattle.typing.proofs.EnvLaws.{Entry, entry, after-is, fields-head}
+use Rattle.typing.proofs.EnvLaws.{entry, after-is, fields-head}
 use Rattle.typing.proofs.TypeLaws.{is-typed, is-failed}
 use Rattle.typing.proofs.ShapeLaws.{Shape, input, output, expression, one, always, sometime, two, shape, formula-fields}
 

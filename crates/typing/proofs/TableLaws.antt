@@ -3,17 +3,17 @@ use Prim.Native.Nat.{ℕ, zero, suc, _+_, _-_, _*_, _/_, _<_, _≤_}
 use mathlib.Core.Path.{_≡_, refl, sym, ap, _∙_}
 use mathlib.Core.Bool.{Bool, true, false}
 use mathlib.Core.List.{List}
-use mathlib.Core.Option.{Option, none, some}
+use mathlib.Core.Option.{some}
 use native.Mathlib.Omega.{arith}
 use native.Mathlib.Numerals.{add-one}
 use lib.ListN.{length, getD, set, length-set}
 use lib.Seq.{sets}
-use borrow.Author.Tests.{eq-eqb, ne-eqb}
+use borrow.Author.Tests.{ne-eqb}
 use Rattle.reading.specs.Read.{Read, ok, refused, pick}
 use Rattle.reading.specs.Limits.{maxU32, maxList}
 use Rattle.reading.specs.Item.{readNumber, readCount, readTag}
 use Rattle.reading.specs.Text.{Name}
-use Rattle.reading.specs.Skip.{skipItems, textAt}
+use Rattle.reading.specs.Skip.{textAt}
 use Rattle.reading.specs.Link.{answer, taggedOf, stands}
 use Rattle.reading.specs.declared.cursor.Cursor.{Cursor}
 use Rattle.reading.specs.declared.fault.Fault.{Fault}
@@ -27,7 +27,6 @@ use Rattle.reading.specs.declared.step.Step.the-variants as step
 use Rattle.reading.proofs.Rules.{no}
 use Rattle.reading.proofs.Answers.{num, out}
 use Rattle.reading.proofs.ItemLaws.{number-kind, count-kind}
-use Rattle.typing.specs.Types.{enum}
 use Rattle.typing.specs.Names.{eqName}
 use Rattle.typing.specs.Means.{tyOf}
 use Rattle.typing.specs.Table.{placeAfter, afterItem, afterHead, pairsFrom, pairsOf, pairsAt, Filled, findFirst, findIn, found, widthType, caseType, exprTypeAt, memberFrom, memberOf, memberAt}

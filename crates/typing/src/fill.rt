@@ -5,9 +5,7 @@ use reading::Cursor;
 use reading::Tagged;
 ghost use mathlib.Core.Path.{_≡_};
 ghost use Prim.Native.Nat.{_≤_};
-ghost use mathlib.Core.List.{[], _∷_};
 ghost use lib.ListN.{set};
-ghost use lib.Seq.{sets};
 ghost use Rattle.typing.specs.Table.{afterHead, afterTag, pairsAt, Filled};
 
 // Puts a place into the table, where it has such a word.

@@ -6,11 +6,8 @@ use borrow.Author.Needs.{needs}
 use Rattle.typing.proofs.pattern.bool_on.Statement.{statement}
 use Rattle.typing.proofs.pattern.bool_on.Tie as tie
 
-returns : tie.Need-returns
-unfolding boolOn tyOf unfitOf causeOf
-returns c = search needs
-
 pub bool-on-spec : {M : Type 1} → statement M
+unfolding boolOn tyOf unfitOf causeOf
 bool-on-spec =
     tie.close
     (tie.spec
@@ -19,7 +16,7 @@ bool-on-spec =
     (λ c. search needs)
     (λ c. search needs)
     (λ c. search needs)
-    returns
+    (λ c. search needs)
     (λ c. search bool-bit)
     (λ c. search bool-literal)
     (λ c. search bool-state)
