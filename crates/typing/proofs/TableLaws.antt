@@ -49,6 +49,15 @@ unfolding taggedOf
 tag-out (ok a n) e q = no (cc)
 tag-out (refused f p) e q = cc
 
+-- the place after a data enum's head, and after an item
+pub tag-to : (m : Read Tag) {r : Tagged} {t : Tag} {c : Cursor} → r ≡ taggedOf m → r ≡ tagged.Case t c → c .at ≡ placeAfter m
+unfolding placeAfter
+tag-to m e q = rw (tag-was m e q)
+
+pub tag-away : (m : Read Tag) {r : Tagged} {f : Fault} {p : ℕ} → r ≡ taggedOf m → r ≡ tagged.Refused f p → p ≡ placeAfter m
+unfolding placeAfter
+tag-away m e q = rw (tag-out m e q)
+
 pub after-to : (m : Read (Unit {0})) {r : Step} {c : Cursor} → r ≡ stands m → r ≡ step.To c → c .at ≡ placeAfter m
 unfolding stands placeAfter
 after-to (ok a n) {r} {c} e q = let u : c ≡ record { at = n } = cc in ap (λ (z : Cursor). z .at) u

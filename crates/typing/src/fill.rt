@@ -6,7 +6,7 @@ use reading::Tagged;
 ghost use mathlib.Core.Path.{_≡_};
 ghost use Prim.Native.Nat.{_≤_};
 ghost use lib.ListN.{set};
-ghost use Rattle.typing.specs.Table.{afterHead, afterTag, pairsAt, Filled};
+ghost use Rattle.typing.specs.Table.{afterHead, afterTag, Past, pairsAt, Filled};
 
 // Puts a place into the table, where it has such a word.
 pub fn store(table: &mut [usize], j: usize, place: usize)
@@ -27,6 +27,13 @@ pub fn after_head(doc: &[u8], at: usize) -> usize
         Answer::Got(_, next) => next.at,
         Answer::Refused(_, place) => place,
     }
+}
+
+// The place of what follows the first field of the record at a place.
+pub(crate) fn second(doc: &[u8], at: usize) -> usize
+    ensures { λ r. ⌜ Past (now (doc .entry)) (afterHead (now (doc .entry)) at) r ⌝ }
+{
+    after(doc, after_head(doc, at))
 }
 
 // Fills the table from the list of records at a place; how many words it takes.
