@@ -52,24 +52,26 @@ get-some [] i h = absurd (omega arith)
 get-some (y ∷ xs) zero h = (y, refl)
 get-some (y ∷ xs) (suc i) h = get-some xs i (omega arith)
 
--- the notes of the entries from number i on
-module _ {A : Type 0} (f : Placed A → List Note) where
-  abbrev pub eachFrom : ℕ → List A → List Note
+-- the entries from number i on are the entry at i and those after it
+pub drop-get : {A : Type 0} (xs : List A) (i : ℕ) (x : A) → getElem? xs i ≡ some x → drop i xs ≡ x ∷ drop (i + 1) xs
+drop-get [] i x e = no (cc)
+drop-get {A} (y ∷ xs) zero x e = let q : y ≡ x = cc in ap (λ (z : A). z ∷ xs) q
+drop-get (y ∷ xs) (suc i) x e = let q : suc (i + 1) ≡ suc i + 1 = omega arith in drop-get xs i x e ∙ ap (λ (n : ℕ). x ∷ drop n (y ∷ xs)) q
+
+-- what is given of the entries from number i on
+module _ {A B : Type 0} (f : Placed A → List B) where
+  abbrev pub eachFrom : ℕ → List A → List B
   eachFrom i xs = each f (placed i (drop i xs))
 
-  each-here : (i : ℕ) (x : A) (xs ys : List A) → ys ≡ x ∷ xs → each f (placed i ys) ≡ f (at-place i x) ++ each f (placed (i + 1) xs)
+  pub each-here : (i : ℕ) (x : A) (xs ys : List A) → ys ≡ x ∷ xs → each f (placed i ys) ≡ f (at-place i x) ++ each f (placed (i + 1) xs)
   each-here i x xs ys e = rw (e, add-one)
 
-  drop-get : (xs : List A) (i : ℕ) (x : A) → getElem? xs i ≡ some x → drop i xs ≡ x ∷ drop (i + 1) xs
-  drop-get [] i x e = no (cc)
-  drop-get (y ∷ xs) zero x e = let q : y ≡ x = cc in ap (λ (z : A). z ∷ xs) q
-  drop-get (y ∷ xs) (suc i) x e = let q : suc (i + 1) ≡ suc i + 1 = omega arith in drop-get xs i x e ∙ ap (λ (n : ℕ). x ∷ drop n (y ∷ xs)) q
-
+module _ {A : Type 0} (f : Placed A → List Note) where
   -- the entry by its number
-  pub each-turn : (i : ℕ) (xs : List A) (x : A) {owner : ℕ} {o : List ℕ} {skip n : ℕ} {all : List Note} {r r′ : ℕ} {o′ o″ : List ℕ} → getElem? xs i ≡ some x → Left owner o skip n all r o′ (eachFrom i xs) → Noted owner o′ skip r (f (at-place i x)) r′ o″ → Left owner o skip n all r′ o″ (eachFrom (i + 1) xs)
-  each-turn i xs x {owner} {o} {skip} {n} {all} e l p = left-more owner o skip n all l (f (at-place i x)) (each-here i x (drop (i + 1) xs) (drop i xs) (drop-get xs i x e)) p
+  pub each-turn : (i : ℕ) (xs : List A) (x : A) {owner : ℕ} {o : List ℕ} {skip n : ℕ} {all : List Note} {r r′ : ℕ} {o′ o″ : List ℕ} → getElem? xs i ≡ some x → Left owner o skip n all r o′ (eachFrom f i xs) → Noted owner o′ skip r (f (at-place i x)) r′ o″ → Left owner o skip n all r′ o″ (eachFrom f (i + 1) xs)
+  each-turn i xs x {owner} {o} {skip} {n} {all} e l p = left-more owner o skip n all l (f (at-place i x)) (each-here f i x (drop (i + 1) xs) (drop i xs) (drop-get xs i x e)) p
 
-  pub each-done : (i : ℕ) (xs : List A) {owner : ℕ} {o : List ℕ} {skip n : ℕ} {all : List Note} {r : ℕ} {o′ : List ℕ} → length xs ≤ i → Left owner o skip n all r o′ (eachFrom i xs) → Noted owner o skip n all r o′
+  pub each-done : (i : ℕ) (xs : List A) {owner : ℕ} {o : List ℕ} {skip n : ℕ} {all : List Note} {r : ℕ} {o′ : List ℕ} → length xs ≤ i → Left owner o skip n all r o′ (eachFrom f i xs) → Noted owner o skip n all r o′
   each-done i xs {owner} {o} {skip} {n} {all} h l = left-none owner o skip n all l (ap (λ (ys : List A). each f (placed i ys)) (drop-of-length-le xs h))
 
 -- a list has no more entries than are allowed

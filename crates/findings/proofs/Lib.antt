@@ -1,4 +1,5 @@
 -- Laws that belong to no one function, from the lowest to the highest.
+pub mod Cycle
 pub mod SheetLaws
 pub mod NoteLaws
 pub mod RowLaws
@@ -28,3 +29,24 @@ pub mod OptionLaws
 pub mod OpeningLaws
 pub mod OnErrorLaws
 pub mod ClaimLaws
+pub mod GuardLaws
+pub mod SetLaws
+pub mod EmitLaws
+pub mod TransitionLaws
+pub mod ModuleLaws
+pub mod WalkLaws
+pub mod ReplyLaws
+pub mod PresentLaws
+pub mod ImpossibleLaws
+pub mod TouchLaws
+pub mod MentionLaws
+pub mod UnusedLaws
+pub mod UseLaws
+pub mod PlaceLaws
+pub mod PrintLaws
+pub mod PairTests
+pub mod PriorityLaws
+pub mod ClashLaws
+pub mod AlikeLaws
+pub mod OrderLaws
+pub mod StateTurns

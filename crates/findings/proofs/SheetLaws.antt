@@ -142,7 +142,7 @@ put-after [] o k n e h = refl
 put-after (f ∷ fs) o k n e h =
     ap (λ (x : List ℕ). put x k (suc n) fs) (putOne-full o k n f (omega arith)) ∙ put-after fs o k (suc n) e (omega arith)
 
-pub none : Finding
+abbrev pub none : Finding
 none = inModule 0 (note 0 0 0 0)
 
 five : (o ws : List ℕ) → length o ≡ 5 → length ws ≡ 5 → sets o 0 ws ≡ ws

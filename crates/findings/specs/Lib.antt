@@ -16,3 +16,11 @@ pub mod Promises
 pub mod Prints
 pub mod PairPromises
 pub mod WarningPromises
+pub mod ModulePromises
+pub mod Reply
+pub mod Walks
+pub mod Touch
+pub mod Uses
+pub mod Parts
+pub mod PairSteps
+pub mod StateSteps

@@ -29,7 +29,7 @@ use Rattle.findings.specs.Lists.{Placed, placed, each}
 use Rattle.findings.specs.Finding.{Note, note, noted, caused, blamed, typeCause}
 use Rattle.findings.specs.Mentions.{enumName, enumVariants, states}
 use Rattle.findings.specs.Errors.{unknownState, isEmpty, initialNotes, versionNotes, initNotes, opening, guardNotes, setNotes, emitNotes, bodyNotes, own, errorEmitNotes, onErrorNotes, propertyName, repeatNotes, formulaNotes}
-use Rattle.findings.specs.Noting.{Noted}
+use Rattle.findings.specs.Noting.{Noted, numbered}
 use Rattle.findings.specs.Scene.{Bytes, Reads, RowAt, Rows, Scene, StatesAt}
 
 -- an entry with its place
@@ -107,6 +107,14 @@ module _ (s : List ℕ) (owner : ℕ) (o : List ℕ) (skip n r : ℕ) (o′ : Li
 
   pub record NotesBody (rows : List ℕ) (i outputs : ℕ) (vars names enums : List ℕ) : Type 0 where
     pub of : (t : Transition) (gs : List ConstructorGroup) (env : Env) → RowAt s rows i t → Groups s outputs gs → Agree (envAt s names enums) env → Known s vars env → Notes (bodyNotes env gs (at-place i t))
+
+  -- sites 6 to 8, by the number of what is wrong with the pattern
+  pub record NotesHeads (rows : List ℕ) (i : ℕ) (found : Found) (cause : ℕ) : Type 0 where
+    pub of : (vs : List Name) (t : Transition) → RowAt s rows i t → StatesAt s found vs → Notes (unknownState vs (t .state) (note 6 i 0 0) ++ unknownState vs (t .next-state) (note 7 i 0 0) ++ numbered 8 i 0 cause)
+
+  -- sites 6 to 13, by that number and by the names that the pattern binds too
+  pub record NotesJudged (places rows : List ℕ) (i : ℕ) (found : Found) (cause : ℕ) (vars names enums : List ℕ) : Type 0 where
+    pub of : (m : Module) (t : Transition) (env : Env) → Scene s places m → RowAt s rows i t → StatesAt s found (states m) → Agree (envAt s names enums) env → Known s vars env → Notes (unknownState (states m) (t .state) (note 6 i 0 0) ++ unknownState (states m) (t .next-state) (note 7 i 0 0) ++ numbered 8 i 0 cause ++ bodyNotes env (m .outputs) (at-place i t))
 
   -- the first k words of the table are the module's variables; bindings come after them
   pub record NotesTransition (places rows : List ℕ) (i : ℕ) (found : Found) (table : List ℕ) (k : ℕ) (enums : List ℕ) : Type 0 where

@@ -5,18 +5,23 @@ use mathlib.Core.List.{List}
 use mathlib.Core.Option.{Option}
 use lib.ListN.{length}
 use Rattle.reading.specs.Text.{Name, readName}
+use Rattle.reading.specs.Expr.{Expr}
 use Rattle.reading.specs.Combine.{optional}
 use Rattle.reading.specs.Decl.{ConstructorGroup}
-use Rattle.reading.specs.Transition.{Transition}
+use Rattle.reading.specs.Transition.{Transition, readTopExpr}
 use Rattle.reading.specs.Module.{Module}
 use Rattle.typing.specs.declared.table.Found.{Found}
 use Rattle.findings.specs.Lists.{placed, each}
 use Rattle.findings.specs.Mentions.{allTouched}
-use Rattle.findings.specs.Warnings.{unreachable, dead, unused, impossible}
+use Rattle.findings.specs.Warnings.{unreachable, dead, unused, impossibleGuard, impossible}
 use Rattle.findings.specs.Noting.{Noted}
 use Rattle.findings.specs.Scene.{Reads, Rows, Scene, StatesAt}
 use Rattle.findings.specs.Prints.{Prints}
 use Rattle.findings.specs.Promises.{Groups}
+
+-- of transition i: its guard
+pub record NotesGuardImpossible (s : List ℕ) (owner : ℕ) (o : List ℕ) (skip n r : ℕ) (o′ : List ℕ) (at i : ℕ) : Type 0 where
+  pub of : (g : Option Expr) → Reads (optional readTopExpr) s at g → Noted owner o skip n (impossibleGuard i g) r o′
 
 module _ (s : List ℕ) (owner : ℕ) (o : List ℕ) (skip n r : ℕ) (o′ : List ℕ) (rows : List ℕ) (count : ℕ) where
   -- site 21

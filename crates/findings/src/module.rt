@@ -1,15 +1,21 @@
 // A module: its tables, its errors and its warnings.
+use crate::claims::note_formulas;
+use crate::claims::note_repeats;
+use crate::on_error::note_on_error;
 use crate::rows::Listed;
 use crate::rows::fill_row;
 use crate::rows::fill_rows;
+use crate::rows::word;
+use typing::Found;
 use typing::after;
 use typing::fill_table;
 use typing::store;
 ghost use mathlib.Core.Path.{_≡_};
-ghost use Prim.Native.Nat.{_≤_};
+ghost use Prim.Native.Nat.{_+_, _≤_, _^_};
 ghost use lib.ListN.{length};
 ghost use Rattle.findings.specs.Scene.{Opens};
 ghost use Rattle.findings.specs.Promises.{ClaimsSet};
+ghost use Rattle.findings.specs.ModulePromises.{Names, NotesClosing};
 
 // Fills the tables of the module at a place: the places of its fields, and of its transitions' fields.
 pub(crate) fn open_module(doc: &[u8], at: usize, places: &mut [usize], rows: &mut [usize]) -> Listed
@@ -43,4 +49,62 @@ pub(crate) fn fill_claims(
     let first = fill_table(doc, properties, claims);
     let second = fill_table(doc, assumptions, &mut claims[first..1020]);
     first + second
+}
+
+// How many variables a module has, and how many words the tables of its enums and of its properties take.
+pub struct Named {
+    pub vars: u8,
+    pub enums: usize,
+    pub claims: usize,
+}
+
+// Fills the tables of names: variables, enums, properties and assumptions.
+pub(crate) fn fill_names(
+    doc: &[u8],
+    places: &[usize],
+    table: &mut [usize],
+    enums: &mut [usize],
+    claims: &mut [usize],
+) -> Named
+    requires { ⌜ 510 ≤ length (now table) ⌝ }
+    requires { ⌜ 510 ≤ length (now enums) ⌝ }
+    requires { ⌜ length (now claims) ≡ 1020 ⌝ }
+    ensures { λ r. ⌜ Names (now (doc .entry)) (now (places .entry)) r (now (table .exit)) (now (enums .exit)) (now (claims .exit)) ⌝ }
+{
+    let vars = fill_table(doc, word(places, 7), table);
+    let words = fill_table(doc, word(places, 3), enums);
+    let properties = word(places, 9);
+    let assumptions = word(places, 10);
+    let all = fill_claims(doc, properties, assumptions, claims);
+    let many = vars / 2;
+    Named {
+        vars: many as u8,
+        enums: words,
+        claims: all,
+    }
+}
+
+// Sites 16 to 20.
+pub(crate) fn note_closing<'a>(
+    doc: &'a [u8],
+    places: &'a [usize],
+    found: Found,
+    names: &'a [usize],
+    enums: &'a [usize],
+    claims: &'a [usize],
+    out: &mut [u32],
+    skip: usize,
+    n: usize,
+    owner: u32,
+) -> usize
+    requires { ⌜ length (now claims) ≤ 1020 ⌝ }
+    requires { ⌜ n + 1786 ≤ 2 ^ 40 ⌝ }
+    ensures { λ r. ⌜ NotesClosing (now (doc .entry)) owner (now (out .entry)) skip n r (now (out .exit)) (now (places .entry)) found (now (names .entry)) (now (enums .entry)) (now (claims .entry)) ⌝ }
+    ensures { λ r. ⌜ r ≤ n + 1786 ⌝ }
+{
+    let at = word(places, 2);
+    let outputs = word(places, 6);
+    let a = note_on_error(doc, at, found, outputs, names, enums, out, skip, n, owner);
+    let b = note_repeats(doc, claims, out, skip, a, owner);
+    note_formulas(doc, claims, names, enums, out, skip, b, owner)
 }

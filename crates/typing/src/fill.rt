@@ -62,7 +62,7 @@ pub fn fill_table(doc: &[u8], at: usize, table: &mut [usize]) -> usize
 }
 
 // The place after the head of the data enum at a place.
-pub(crate) fn after_tag(doc: &[u8], at: usize) -> usize
+pub fn after_tag(doc: &[u8], at: usize) -> usize
     ensures { λ r. ⌜ r ≡ afterTag (now (doc .entry)) at ⌝ }
 {
     let c = Cursor { at };

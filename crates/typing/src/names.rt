@@ -5,7 +5,7 @@ ghost use Rattle.reading.specs.Skip.{textAt};
 ghost use Rattle.typing.specs.Names.{eqName};
 
 // Whether two names are equal.
-pub(crate) fn same<'a>(a: &'a [u8], b: &'a [u8]) -> bool
+pub fn same<'a>(a: &'a [u8], b: &'a [u8]) -> bool
     ensures { λ r. ⌜ r ≡ eqName (now (a .entry)) (now (b .entry)) ⌝ }
 {
     if a.len() != b.len() {
@@ -22,7 +22,7 @@ pub(crate) fn same<'a>(a: &'a [u8], b: &'a [u8]) -> bool
 }
 
 // Whether the names at two places are equal.
-pub(crate) fn same_name(doc: &[u8], p: usize, q: usize) -> bool
+pub fn same_name(doc: &[u8], p: usize, q: usize) -> bool
     ensures { λ r. ⌜ r ≡ eqName (textAt (now (doc .entry)) p) (textAt (now (doc .entry)) q) ⌝ }
 {
     same(text_at(doc, p), text_at(doc, q))

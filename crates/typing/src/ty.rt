@@ -34,7 +34,7 @@ pub(crate) fn bits_of(doc: &[u8], t: Ty) -> Bits
     }
 }
 
-pub(crate) fn is_bool(doc: &[u8], t: Ty) -> bool
+pub fn is_bool(doc: &[u8], t: Ty) -> bool
     ensures { λ r. ⌜ r ≡ isBool (tyOf (now (doc .entry)) t) ⌝ }
 {
     match t {

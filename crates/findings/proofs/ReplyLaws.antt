@@ -1,0 +1,157 @@
+-- The answers of the calls, from what the walks over a document write.
+use Prim.Native.Nat.{ℕ, zero, suc, _+_, _-_, _*_, _<_, _≤_}
+use mathlib.Core.Path.{_≡_, refl, sym, ap, subst, _∙_}
+use mathlib.Core.List.{List, [], _∷_, _++_}
+use mathlib.Core.Bool.{Bool, true, false, cond}
+use native.Mathlib.Omega.{arith}
+use lib.ListN.{length, getD, length-append}
+use lib.Seq.{getD-append-add}
+use lib.Dec.{ltb}
+use borrow.Author.Tests.{lt-ltb, le-ltb}
+use Rattle.reading.specs.Read.{Read, ok, refused}
+use Rattle.reading.specs.Module.{Ir}
+use Rattle.reading.specs.Document.{readDocument}
+use Rattle.reading.specs.Link.{verdict}
+use Rattle.reading.specs.declared.Verdict.{Verdict}
+use Rattle.reading.specs.declared.Verdict.the-variants as verdict
+use Rattle.reading.specs.declared.fault.Fault.{Fault}
+use Rattle.reading.proofs.Rules.{no}
+use Rattle.reading.proofs.Views.{document-at}
+use Rattle.findings.specs.Finding.{Finding, words}
+use Rattle.findings.specs.Findings.{allErrors, allWarnings, findings}
+use Rattle.findings.specs.Sheet.{Written}
+use Rattle.findings.specs.Walks.{WalksAll, Replies, Lines}
+use Rattle.findings.specs.Reply.{tooMany, replyTo, sheetOf, lineOf, lineTo}
+use Rattle.findings.specs.declared.reply.Reply.{Reply}
+use Rattle.findings.specs.declared.reply.Reply.the-variants.{Counts, Refused, Short}
+use Rattle.findings.specs.declared.reply.Line.{Line}
+use Rattle.findings.specs.declared.reply.Line.the-variants as line
+use Rattle.findings.proofs.SheetLaws.{then, put-whole, none, put-kth}
+
+-- how many findings a walk counts
+module _ (s : List ℕ) {e e′ w w′ : List ℕ} {a b : ℕ} (t : WalksAll s e 0 0 a e′ w 0 0 b w′) where
+  counts : (x : Ir) (n : ℕ) → readDocument s ≡ ok x n → (a ≡ length (allErrors x)) × (b ≡ length (allWarnings x)) × (a + b ≡ length (findings x))
+  unfolding findings
+  counts x n g =
+      let u = t .of x n (document-at s x n g) in
+      let p = u .errors-are .count in
+      let q = u .warnings-are .count in
+      (omega arith, omega arith, omega (arith, length-append (allErrors x) (allWarnings x)))
+
+  pub reply-short : (o : List ℕ) → length o < 5 * (a + b) → Replies s o (Short (a + b)) o
+  unfolding replyTo sheetOf tooMany
+  reply-short o h = record {
+    of = λ x n g.
+        let c = counts x n g .2 in
+        let l : ltb (length o) (5 * length (findings x)) ≡ true = lt-ltb (length o) (5 * length (findings x)) (omega arith) in
+        (rw l (ap Short c), rw l);
+  }
+
+  pub reply-written : (o o₁ o₂ : List ℕ) (c d : ℕ) {p p′ q q′ : List ℕ} {b₁ a₂ : ℕ} → 5 * (a + b) ≤ length o → WalksAll s o 0 0 c o₁ p 0 0 b₁ p′ → WalksAll s q 0 0 a₂ q′ o₁ 0 a d o₂ → Replies s o (Counts a b) o₂
+  unfolding replyTo sheetOf tooMany findings
+  reply-written o o₁ o₂ c d h u v = record {
+    of = λ x n g.
+        let k = counts x n g in
+        let i = document-at s x n g in
+        let first = u .of x n i .errors-are in
+        let second = v .of x n i .warnings-are in
+        let m = first .count in
+        let z : c ≡ a = omega (arith, k .0) in
+        let both : Written o 0 0 (allErrors x ++ allWarnings x) d o₂ = then first (subst (λ (y : ℕ). Written o₁ 0 y (allWarnings x) d o₂) (sym z) second) in
+        let f = k .2 in
+        let l : ltb (length o) (5 * length (allErrors x ++ allWarnings x)) ≡ false = le-ltb (length o) (5 * length (allErrors x ++ allWarnings x)) (omega arith) in
+        (rw (l, k .0, k .1), rw l (both .buffer ∙ put-whole (allErrors x ++ allWarnings x) o (omega arith)));
+  }
+
+-- the document's verdict
+module _ (s o : List ℕ) {v : Verdict} (e : v ≡ verdict (readDocument s)) where
+  pub reply-refused : {f : Fault} {p : ℕ} → v ≡ verdict.Refused f p → (Refused f p ≡ replyTo o (readDocument s)) × (o ≡ sheetOf o (readDocument s))
+  unfolding verdict replyTo sheetOf
+  reply-refused {f} {p} q = go (readDocument s) (sym q ∙ e)
+    where
+      go : (m : Read Ir) → verdict.Refused f p ≡ verdict m → (Refused f p ≡ replyTo o m) × (o ≡ sheetOf o m)
+      go (ok x n) z = no (cc)
+      go (refused g k) z = let a : f ≡ g = cc in let b : p ≡ k = cc in (rw (a, b), refl)
+
+  pub reply-accepted : (r : Reply) (o′ : List ℕ) → v ≡ verdict.Accepted → Replies s o r o′ → (r ≡ replyTo o (readDocument s)) × (o′ ≡ sheetOf o (readDocument s))
+  unfolding verdict
+  reply-accepted r o′ q t = go (readDocument s) refl (sym q ∙ e)
+    where
+      go : (m : Read Ir) → readDocument s ≡ m → verdict.Accepted ≡ verdict m → (r ≡ replyTo o (readDocument s)) × (o′ ≡ sheetOf o (readDocument s))
+      go (ok x n) g z = let u = t .of x n g in (u .0 ∙ ap (replyTo o) (sym g), u .1 ∙ ap (sheetOf o) (sym g))
+      go (refused g k) h z = no (cc)
+
+-- one finding
+getD-front : (xs ys : List Finding) (k : ℕ) (d : Finding) → k < length xs → getD (xs ++ ys) k d ≡ getD xs k d
+getD-front [] ys k d h = absurd (omega arith)
+getD-front (x ∷ xs) ys zero d h = refl
+getD-front (x ∷ xs) ys (suc k) d h = getD-front xs ys k d (omega arith)
+
+getD-back : (xs ys : List Finding) (k j : ℕ) (d : Finding) → k ≡ length xs + j → getD (xs ++ ys) k d ≡ getD ys j d
+getD-back xs ys k j d e = ap (λ (i : ℕ). getD (xs ++ ys) i d) e ∙ getD-append-add xs ys j d
+
+-- the five words that a buffer holds
+abbrev pub wordsOf : List ℕ → Line
+wordsOf o = line.Words (getD o 0 0) (getD o 1 0) (getD o 2 0) (getD o 3 0) (getD o 4 0)
+
+words-line : (o : List ℕ) (f : Finding) → o ≡ words f → wordsOf o ≡ lineOf f
+unfolding lineOf
+words-line o f e = rw e
+
+module _ (s : List ℕ) (k : ℕ) {e e′ w w′ : List ℕ} {a b : ℕ} (t : WalksAll s e k 0 a e′ w 0 0 b w′) where
+  sizes : (x : Ir) (n : ℕ) → readDocument s ≡ ok x n → (a ≡ length (allErrors x)) × (a + b ≡ length (findings x))
+  unfolding findings
+  sizes x n g =
+      let u = t .of x n (document-at s x n g) in
+      let p = u .errors-are .count in
+      let q = u .warnings-are .count in
+      (omega arith, omega (arith, length-append (allErrors x) (allWarnings x)))
+
+  pub line-error : length e ≡ 5 → k < a → Lines s k (wordsOf e′)
+  unfolding lineTo findings
+  line-error l h = record {
+    of = λ x n g.
+        let u = t .of x n (document-at s x n g) .errors-are in
+        let z = sizes x n g in
+        let c = z .1 in
+        let y : ltb k (length (allErrors x ++ allWarnings x)) ≡ true = lt-ltb k (length (allErrors x ++ allWarnings x)) (omega arith) in
+        rw (y, getD-front (allErrors x) (allWarnings x) k none (omega (arith, z .0))) (words-line e′ (getD (allErrors x) k none) (u .buffer ∙ put-kth (allErrors x) e k 0 k l (omega arith) (omega (arith, z .0))));
+  }
+
+  pub line-missing : a + b ≤ k → Lines s k (line.Missing (a + b))
+  unfolding lineTo
+  line-missing h = record {
+    of = λ x n g.
+        let c = sizes x n g .1 in
+        let y : ltb k (length (findings x)) ≡ false = le-ltb k (length (findings x)) (omega arith) in
+        rw y (ap line.Missing c);
+  }
+
+  pub line-warning : {f f′ p p′ : List ℕ} {skip c d : ℕ} → length p ≡ 5 → a ≤ k → k < a + b → WalksAll s f skip 0 c f′ p k a d p′ → Lines s k (wordsOf p′)
+  unfolding lineTo findings
+  line-warning {p} {p′} l h i v = record {
+    of = λ x n g.
+        let u = v .of x n (document-at s x n g) .warnings-are in
+        let z = sizes x n g in
+        let c = z .1 in
+        let m = length-append (allErrors x) (allWarnings x) in
+        let y : ltb k (length (allErrors x ++ allWarnings x)) ≡ true = lt-ltb k (length (allErrors x ++ allWarnings x)) (omega arith) in
+        rw (y, getD-back (allErrors x) (allWarnings x) k (k - a) none (omega (arith, z .0))) (words-line p′ (getD (allWarnings x) (k - a) none) (u .buffer ∙ put-kth (allWarnings x) p k a (k - a) l (omega arith) (omega (arith, z .0))));
+  }
+
+module _ (s : List ℕ) (k : ℕ) {v : Verdict} (e : v ≡ verdict (readDocument s)) where
+  pub line-refused : {f : Fault} {p : ℕ} → v ≡ verdict.Refused f p → line.Refused f p ≡ lineTo k (readDocument s)
+  unfolding verdict lineTo
+  line-refused {f} {p} q = go (readDocument s) (sym q ∙ e)
+    where
+      go : (m : Read Ir) → verdict.Refused f p ≡ verdict m → line.Refused f p ≡ lineTo k m
+      go (ok x n) z = no (cc)
+      go (refused g j) z = let a : f ≡ g = cc in let b : p ≡ j = cc in rw (a, b)
+
+  pub line-accepted : (r : Line) → v ≡ verdict.Accepted → Lines s k r → r ≡ lineTo k (readDocument s)
+  unfolding verdict
+  line-accepted r q t = go (readDocument s) refl (sym q ∙ e)
+    where
+      go : (m : Read Ir) → readDocument s ≡ m → verdict.Accepted ≡ verdict m → r ≡ lineTo k (readDocument s)
+      go (ok x n) g z = t .of x n g ∙ ap (lineTo k) (sym g)
+      go (refused g j) h z = no (cc)

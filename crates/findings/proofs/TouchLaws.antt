@@ -1,0 +1,301 @@
+-- Marks of the variables whose names are mentioned: lists of names one after another, one name, an expression, and lists of the
+-- document entry by entry.
+use Prim.Native.Nat.{ℕ, suc, _+_, _-_, _*_, _/_, _<_, _≤_}
+use mathlib.Core.Path.{_≡_, refl, sym, ap, subst, _∙_}
+use mathlib.Core.Logic.{_⊎_, inl, inr}
+use mathlib.Core.Bool.{Bool, true, false, cond}
+use mathlib.Core.List.{List, [], _∷_, _++_, map, append-assoc, append-nil}
+use native.Mathlib.Omega.{arith}
+use lib.ListN.{length, getD, set, length-set}
+use lib.Seq.{getD-set-same, getD-set-other}
+use Rattle.reading.specs.Read.{Reader, ok, pick}
+use Rattle.reading.specs.Limits.{maxPath, maxList}
+use Rattle.reading.specs.Item.{readCase, readCount, readTag}
+use Rattle.reading.specs.Text.{Name, readName}
+use Rattle.reading.specs.Expr.{Expr, unaryOps, binOps, readPath, readExpr}
+use Rattle.reading.specs.Combine.{entries, listOf}
+use Rattle.reading.specs.Skip.{textAt}
+use Rattle.reading.specs.Link.{answer, taggedOf}
+use Rattle.reading.specs.Views.{ExprAt, int-expr, bool-expr, path-expr, unary-expr, binary-expr}
+use Rattle.reading.specs.declared.cursor.Cursor.{Cursor}
+use Rattle.reading.specs.declared.fault.Fault.{Fault}
+use Rattle.reading.specs.declared.item.Answer.{Answer}
+use Rattle.reading.specs.declared.item.Answer.the-variants.{Got, Refused}
+use Rattle.reading.specs.declared.item.Tag.{Tag}
+use Rattle.reading.specs.declared.item.Tagged.{Tagged}
+use Rattle.reading.specs.declared.item.Tagged.the-variants as tagged
+use Rattle.reading.proofs.Rules.{no}
+use Rattle.reading.proofs.Answers.{num, out}
+use Rattle.reading.proofs.ExprLaws.{name-laws, path-laws}
+use Rattle.reading.proofs.CaseViews.{expr-at}
+use Rattle.reading.proofs.ListViews.{list-at}
+use Rattle.reading.proofs.Walks.{name-text}
+use Rattle.typing.specs.Names.{eqName, member}
+use Rattle.typing.specs.Tells.{Ends}
+use Rattle.typing.specs.Table.{Past}
+use Rattle.typing.proofs.NameLaws.{eqName-sym}
+use Rattle.typing.proofs.TableLaws.{tag-out}
+use Rattle.typing.proofs.EnvLaws.{entry, after-is}
+use Rattle.typing.proofs.TypeLaws.{fields-are}
+use Rattle.findings.specs.Lists.{each}
+use Rattle.findings.specs.Mentions.{soleName, collectNames}
+use Rattle.findings.proofs.PresentLaws.{last-or-before}
+use Rattle.findings.specs.Touch.{varAt, Touched, VarTouched, Touches, TouchesExpr, TouchesUnary, TouchesBinary}
+
+pub member-append : (w : Name) (xs ys : List Name) → member w (xs ++ ys) ≡ pick (member w xs) true (member w ys)
+unfolding member pick
+member-append w [] ys = refl
+member-append w (x ∷ xs) ys = rw (member-append w xs ys) (go (eqName x w))
+  where
+    go : (b : Bool) → pick b true (pick (member w xs) true (member w ys)) ≡ pick (pick b true (member w xs)) true (member w ys)
+    go true = refl
+    go false = refl
+
+cond-then : (a b : Bool) (x : ℕ) → cond b 1 (cond a 1 x) ≡ cond (pick a true b) 1 x
+unfolding pick
+cond-then true true x = refl
+cond-then true false x = refl
+cond-then false b x = refl
+
+-- names mentioned one list after another
+module _ (s names : List ℕ) where
+  pub touched-none : (m : List ℕ) → Touched s names m [] m
+  unfolding member
+  touched-none m = record { size = refl; at = λ k h l. refl }
+
+  pub touched-then : {m m′ m″ : List ℕ} {xs ys : List Name} → Touched s names m xs m′ → Touched s names m′ ys m″ → Touched s names m (xs ++ ys) m″
+  touched-then {m} {m′} {m″} {xs} {ys} p q = record {
+    size = q .size ∙ p .size;
+    at = λ k h l.
+        let w = varAt s names k in
+        let z = p .size in
+        q .at k h (omega arith)
+        ∙ ap (cond (member w ys) 1) (p .at k h l)
+        ∙ cond-then (member w xs) (member w ys) (getD m k 0)
+        ∙ ap (λ (b : Bool). cond b 1 (getD m k 0)) (sym (member-append w xs ys));
+  }
+
+  -- the same names, told otherwise
+  pub touched-as : {m m′ : List ℕ} {xs : List Name} (ys : List Name) → xs ≡ ys → Touched s names m xs m′ → Touched s names m ys m′
+  touched-as {m} {m′} ys e p = subst (λ (x : List Name). Touched s names m x m′) e p
+
+-- one variable
+cond-same : (b : Bool) (x : ℕ) → x ≡ 1 → x ≡ cond b 1 x
+cond-same true x e = e
+cond-same false x e = refl
+
+module _ (s : List ℕ) (key : ℕ) (w : Name) (k : ℕ) (m : List ℕ) where
+  pub var-past : length m ≤ k → VarTouched s key w k m m
+  var-past h = record { size = refl; here = λ l. absurd (omega arith); other = λ j e. refl }
+
+  pub var-marked : getD m k 0 ≡ 1 → VarTouched s key w k m m
+  var-marked e = record { size = refl; here = λ l. cond-same (eqName (textAt s key) w) (getD m k 0) e; other = λ j e. refl }
+
+  module _ {text : Name} {b : Bool} (t : text ≡ textAt s key) (e : b ≡ eqName text w) where
+    pub var-hit : k < length m → b ≡ true → VarTouched s key w k m (set m k 1)
+    var-hit h q = record {
+      size = length-set m k 1;
+      here = λ l. getD-set-same m k 1 0 l ∙ ap (λ (x : Bool). cond x 1 (getD m k 0)) (sym q ∙ e ∙ ap (λ (x : Name). eqName x w) t);
+      other = λ j d. getD-set-other m k j 1 0 d;
+    }
+
+    pub var-miss : b ≡ false → VarTouched s key w k m m
+    var-miss q = record {
+      size = refl;
+      here = λ l. ap (λ (x : Bool). cond x 1 (getD m k 0)) (sym q ∙ e ∙ ap (λ (x : Name). eqName x w) t);
+      other = λ j d. refl;
+    }
+
+-- one name: the first k variables are done
+module _ (s names : List ℕ) (w : Name) (m : List ℕ) where
+  pub record Touching (k : ℕ) (m′ : List ℕ) : Type 0 where
+    pub size : length m′ ≡ length m
+    pub done : (j : ℕ) → j < k → j < length m → getD m′ j 0 ≡ cond (eqName (varAt s names j) w) 1 (getD m j 0)
+    pub kept : (j : ℕ) → k ≤ j → getD m′ j 0 ≡ getD m j 0
+
+  pub touching-none : Touching 0 m
+  touching-none = record { size = refl; done = λ j h. absurd (omega arith); kept = λ j h. refl }
+
+  module _ (k : ℕ) {m′ : List ℕ} (g : Touching k m′) where
+    pub touching-more : {m″ : List ℕ} → VarTouched s (getD names (2 * k) 0) w k m′ m″ → Touching (k + 1) m″
+    touching-more {m″} v = record {
+      size = v .size ∙ g .size;
+      done = λ j h l. go j l (last-or-before j k h);
+      kept = λ j h. v .other j (λ q. omega arith) ∙ g .kept j (omega arith);
+    }
+      where
+        go : (j : ℕ) → j < length m → (j ≡ k) ⊎ (j < k) → getD m″ j 0 ≡ cond (eqName (varAt s names j) w) 1 (getD m j 0)
+        go j l (inl q) =
+            let z = g .size in
+            let i : getD m″ k 0 ≡ cond (eqName (varAt s names k) w) 1 (getD m k 0) =
+            v .here (omega arith)
+            ∙ ap (cond (eqName (varAt s names k) w) 1) (g .kept k (omega arith)) in
+            subst (λ (x : ℕ). getD m″ x 0 ≡ cond (eqName (varAt s names x) w) 1 (getD m x 0)) (sym q) i
+        go j l (inr h) = v .other j (λ q. omega arith) ∙ g .done j h l
+
+    pub touching-all : {count : ℕ} → count ≡ length names / 2 → count ≤ k → Touched s names m (w ∷ []) m′
+    unfolding member pick
+    touching-all e h = record {
+      size = g .size;
+      at = λ j a l. g .done j (omega arith) l ∙ ap (λ (b : Bool). cond b 1 (getD m j 0)) (eqName-sym (varAt s names j) w ∙ sole (eqName w (varAt s names j)));
+    }
+      where
+        sole : (b : Bool) → b ≡ pick b true false
+        sole true = refl
+        sole false = refl
+
+-- a path
+module _ (s : List ℕ) (at : ℕ) (names m : List ℕ) {a : Answer} (e : a ≡ answer (readCount maxPath s at)) where
+  pub path-refused : (r : ℕ) {f : Fault} {p : ℕ} → a ≡ Refused f p → Touches readPath soleName s at names m r m
+  unfolding readPath
+  path-refused r {f} {p} q = record { end = λ x n g. none x n g; of = λ x n g. none x n g }
+    where
+      none : {P : Type 0} (x : List Name) (n : ℕ) → readPath s at ≡ ok x n → P
+      none x n g = let l = list-at readName s maxPath at x n g in no (let u = out _ e q in let v = l .opens in cc)
+
+  module _ {c : ℕ} {first : Cursor} (q : a ≡ Got c first) where
+    pub path-long : {r : ℕ} → (c ≡ 1 → ⊥) → Past s at r → Touches readPath soleName s at names m r m
+    unfolding readPath soleName
+    path-long h p = record {
+      end = λ x n g. p .is ∙ after-is path-laws s (p .each) at x n g;
+      of = λ x n g. let l = list-at readName s maxPath at x n g in let u = num _ e q in let v = l .opens in go x (cc);
+    }
+      where
+        go : (x : List Name) → length x ≡ c → Touched s names m (soleName x) m
+        go [] i = touched-none s names m
+        go (w ∷ []) i = absurd (h (sym i))
+        go (w ∷ (v ∷ ws)) i = touched-none s names m
+
+    pub path-one : {text : Name} {r : ℕ} {m′ : List ℕ} → c ≡ 1 → text ≡ textAt s (first .at) → Touched s names m (text ∷ []) m′ → Past s (first .at) r → Touches readPath soleName s at names m r m′
+    unfolding readPath soleName entries
+    path-one {text} {r} {m′} z t g p = record {
+      end = λ x n k. let l = list-at readName s maxPath at x n k in let u = num _ e q in let v = l .opens in go x n (cc) (ap (entries (length x) readName s) (cc) ∙ l .entries-are) .0;
+      of = λ x n k. let l = list-at readName s maxPath at x n k in let u = num _ e q in let v = l .opens in go x n (cc) (ap (entries (length x) readName s) (cc) ∙ l .entries-are) .1;
+    }
+      where
+        go : (x : List Name) (n : ℕ) → length x ≡ c → entries (length x) readName s (first .at) ≡ ok x n → (r ≡ n) × Touched s names m (soleName x) m′
+        go [] n i k = absurd (omega arith)
+        go (w ∷ []) n i k =
+            let u = entry readName s (first .at) w [] n k in
+            let v = u .rest in
+            let j : u .end ≡ n = cc in (
+              p .is ∙ after-is name-laws s (p .each) (first .at) w (u .end) (u .here) ∙ j,
+              touched-as s names (w ∷ []) (ap (λ (y : Name). y ∷ []) (t ∙ name-text s (first .at) w (u .end) (u .here))) g,
+            )
+        go (w ∷ (v ∷ ws)) n i k = absurd (omega arith)
+
+-- an expression: none stands there
+module _ (d : ℕ) (s : List ℕ) (at : ℕ) (names m : List ℕ) (r : ℕ) (m′ : List ℕ) where
+  pub expr-deep : d ≡ 0 → TouchesExpr s at names m r m′ d
+  unfolding readExpr
+  expr-deep z = record { end = λ x n q. none x n q; of = λ x n q. none x n q }
+    where
+      none : {P : Type 0} (x : Expr) (n : ℕ) → readExpr d s at ≡ ok x n → P
+      none x n q = let w = rw z at q in no (cc)
+
+  pub expr-no-tag : {a : Tagged} {f : Fault} {p : ℕ} → (d ≡ 0 → ⊥) → a ≡ taggedOf (readTag s at) → a ≡ tagged.Refused f p → TouchesExpr s at names m r m′ d
+  expr-no-tag {a} {f} {p} z e q = record { end = λ x n g. none x n g; of = λ x n g. none x n g }
+    where
+      none : {P : Type 0} (x : Expr) (n : ℕ) → readExpr d s at ≡ ok x n → P
+      none x n g =
+          let k : d ≡ suc (d - 1) = omega arith in
+          let v = expr-at (d - 1) s at x n (ap (λ (i : ℕ). readExpr i s at) (sym k) ∙ g) in
+          let u = v .tagged in
+          let w = tag-out _ e q in
+          no (cc)
+
+-- by the case
+abbrev Goes : (s names m : List ℕ) (r : ℕ) (m′ : List ℕ) → Expr → ℕ → Type 0
+Goes s names m r m′ e n = (r ≡ n) × Touched s names m (collectNames e) m′
+
+module _ {d : ℕ} {s : List ℕ} {c : ℕ} (names m : List ℕ) (r : ℕ) (m′ : List ℕ) where
+  path-case : {k : ℕ} {e : Expr} {n : ℕ} → ExprAt d s c k e n → k ≡ 2 → Touches readPath soleName s c names m r m′ → Goes s names m r m′ e n
+  unfolding collectNames
+  path-case (int-expr q) z h = absurd (omega arith)
+  path-case (bool-expr q) z h = absurd (omega arith)
+  path-case (path-expr q) z h = (h .end _ _ q, h .of _ _ q)
+  path-case (unary-expr q t) z h = absurd (omega arith)
+  path-case (binary-expr q t u) z h = absurd (omega arith)
+
+  unary-case : {k : ℕ} {e : Expr} {n : ℕ} → ExprAt d s c k e n → k ≡ 3 → TouchesUnary s c names m r m′ d → Goes s names m r m′ e n
+  unary-case (int-expr q) z h = absurd (omega arith)
+  unary-case (bool-expr q) z h = absurd (omega arith)
+  unary-case (path-expr q) z h = absurd (omega arith)
+  unary-case (unary-expr q t) z h = (h .end _ _ _ _ q t, h .of _ _ _ _ q t)
+  unary-case (binary-expr q t u) z h = absurd (omega arith)
+
+  binary-case : {k : ℕ} {e : Expr} {n : ℕ} → ExprAt d s c k e n → k ≡ 4 → TouchesBinary s c names m r m′ d → Goes s names m r m′ e n
+  binary-case (int-expr q) z h = absurd (omega arith)
+  binary-case (bool-expr q) z h = absurd (omega arith)
+  binary-case (path-expr q) z h = absurd (omega arith)
+  binary-case (unary-expr q t) z h = absurd (omega arith)
+  binary-case (binary-expr q t u) z h = (h .end _ _ _ _ _ _ q t u, h .of _ _ _ _ _ _ q t u)
+
+literal-case : {d : ℕ} {s : List ℕ} {c : ℕ} {k : ℕ} {e : Expr} {n : ℕ} → ExprAt d s c k e n → k ≤ 1 → collectNames e ≡ []
+unfolding collectNames
+literal-case (int-expr q) z = refl
+literal-case (bool-expr q) z = refl
+literal-case (path-expr q) z = absurd (omega arith)
+literal-case (unary-expr q t) z = absurd (omega arith)
+literal-case (binary-expr q t u) z = absurd (omega arith)
+
+beyond-case : {P : Type 0} {d : ℕ} {s : List ℕ} {c : ℕ} {k : ℕ} {e : Expr} {n : ℕ} → ExprAt d s c k e n → 5 ≤ k → P
+beyond-case (int-expr q) z = absurd (omega arith)
+beyond-case (bool-expr q) z = absurd (omega arith)
+beyond-case (path-expr q) z = absurd (omega arith)
+beyond-case (unary-expr q t) z = absurd (omega arith)
+beyond-case (binary-expr q t u) z = absurd (omega arith)
+
+-- the arms
+module _ (d : ℕ) (s : List ℕ) (at : ℕ) (names m : List ℕ) {a : Tagged} {t : Tag} {c : Cursor} (z : d ≡ 0 → ⊥) (e : a ≡ taggedOf (readTag s at)) (q : a ≡ tagged.Case t c) where
+  fields : (x : Expr) (n : ℕ) → readExpr d s at ≡ ok x n → ExprAt (d - 1) s (c .at) (t .case) x n
+  fields = fields-are d s at e z q
+
+  module _ {r : ℕ} (h : Ends (readExpr d s at) r) where
+    literal : t .case ≤ 1 → TouchesExpr s at names m r m d
+    literal k = record { end = h .of; of = λ x n w. touched-as s names (collectNames x) (sym (literal-case (fields x n w) k)) (touched-none s names m) }
+
+    pub arm-int : t .case ≡ 0 → TouchesExpr s at names m r m d
+    arm-int k = literal (omega arith)
+
+    pub arm-bool : t .case ≡ 1 → TouchesExpr s at names m r m d
+    arm-bool k = literal (omega arith)
+
+  module _ (r : ℕ) (m′ : List ℕ) where
+    pub arm-path : t .case ≡ 2 → Touches readPath soleName s (c .at) names m r m′ → TouchesExpr s at names m r m′ d
+    arm-path k h = record { end = λ x n w. path-case names m r m′ (fields x n w) k h .0; of = λ x n w. path-case names m r m′ (fields x n w) k h .1 }
+
+    pub arm-unary : t .case ≡ 3 → TouchesUnary s (c .at) names m r m′ (d - 1) → TouchesExpr s at names m r m′ d
+    arm-unary k h = record { end = λ x n w. unary-case names m r m′ (fields x n w) k h .0; of = λ x n w. unary-case names m r m′ (fields x n w) k h .1 }
+
+    pub arm-binary : t .case ≡ 4 → TouchesBinary s (c .at) names m r m′ (d - 1) → TouchesExpr s at names m r m′ d
+    arm-binary k h = record { end = λ x n w. binary-case names m r m′ (fields x n w) k h .0; of = λ x n w. binary-case names m r m′ (fields x n w) k h .1 }
+
+    pub arm-beyond : 5 ≤ t .case → TouchesExpr s at names m r m′ d
+    arm-beyond k = record { end = λ x n w. beyond-case (fields x n w) k; of = λ x n w. beyond-case (fields x n w) k }
+
+-- the fields of a unary and of a binary expression
+module _ (d : ℕ) (s : List ℕ) (at : ℕ) (names m : List ℕ) {a : Answer} (e : a ≡ answer (readCase unaryOps s at)) where
+  pub unary-none : (r : ℕ) (m′ : List ℕ) {f : Fault} {p : ℕ} → a ≡ Refused f p → TouchesUnary s at names m r m′ d
+  unary-none r m′ q = record { end = λ op k x n u v. no (let w = out _ e q in cc); of = λ op k x n u v. no (let w = out _ e q in cc) }
+
+  pub unary-goes : {op : ℕ} {c : Cursor} (r : ℕ) (m′ : List ℕ) → a ≡ Got op c → TouchesExpr s (c .at) names m r m′ d → TouchesUnary s at names m r m′ d
+  unfolding collectNames
+  unary-goes {op} {c} r m′ q h = record { end = λ o k x n u v. h .end x n (there o k x n u v); of = λ o k x n u v. h .of x n (there o k x n u v) }
+    where
+      there : (o k : ℕ) (x : Expr) (n : ℕ) → readCase unaryOps s at ≡ ok o k → readExpr d s k ≡ ok x n → readExpr d s (c .at) ≡ ok x n
+      there o k x n u v = let w = num _ e q in let y : c .at ≡ k = cc in ap (readExpr d s) y ∙ v
+
+module _ (d : ℕ) (s : List ℕ) (at : ℕ) (names m : List ℕ) {a : Answer} (e : a ≡ answer (readCase binOps s at)) where
+  pub binary-none : (r : ℕ) (m′ : List ℕ) {f : Fault} {p : ℕ} → a ≡ Refused f p → TouchesBinary s at names m r m′ d
+  binary-none r m′ q = record { end = λ op k x j y n u v w. no (let z = out _ e q in cc); of = λ op k x j y n u v w. no (let z = out _ e q in cc) }
+
+  pub binary-goes : {op : ℕ} {c : Cursor} {right : ℕ} {m₁ : List ℕ} (r : ℕ) (m′ : List ℕ) → a ≡ Got op c → TouchesExpr s (c .at) names m right m₁ d → TouchesExpr s right names m₁ r m′ d → TouchesBinary s at names m r m′ d
+  unfolding collectNames
+  binary-goes {op} {c} {right} r m′ q g h = record {
+    end = λ o k x j y n u v w. let i = there o k x j u v in h .end y n (ap (readExpr d s) (g .end x j i) ∙ w);
+    of = λ o k x j y n u v w. let i = there o k x j u v in touched-then s names (g .of x j i) (h .of y n (ap (readExpr d s) (g .end x j i) ∙ w));
+  }
+    where
+      there : (o k : ℕ) (x : Expr) (j : ℕ) → readCase binOps s at ≡ ok o k → readExpr d s k ≡ ok x j → readExpr d s (c .at) ≡ ok x j
+      there o k x j u v = let w = num _ e q in let y : c .at ≡ k = cc in ap (readExpr d s) y ∙ v

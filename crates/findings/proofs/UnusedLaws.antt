@@ -1,0 +1,150 @@
+-- The marks of a module's variables say which are mentioned; and a note for each that is not.
+use Prim.Native.Nat.{ℕ, zero, suc, _+_, _-_, _*_, _/_, _<_, _≤_}
+use mathlib.Core.Path.{_≡_, refl, sym, ap, subst, _∙_}
+use mathlib.Core.Bool.{Bool, true, false, cond, not}
+use mathlib.Core.List.{List, [], _∷_, _++_}
+use mathlib.Core.Option.{Option, some}
+use native.Mathlib.Omega.{arith}
+use native.Mathlib.Nat.{sub-zero}
+use lib.ListN.{length, getD, getElem?, replicate, take, drop, length-replicate, getD-replicate, List·getD-eq-default}
+use lib.Seq.{sets, sets-eq, take-at}
+use lib.Dec.{eqb}
+use borrow.Author.Tests.{eq-eqb}
+use Rattle.reading.specs.Read.{Read, ok, refused}
+use Rattle.reading.specs.Limits.{maxList}
+use Rattle.reading.specs.Item.{readCount}
+use Rattle.reading.specs.Text.{Name}
+use Rattle.reading.specs.Combine.{entries, listOf}
+use Rattle.reading.specs.Decl.{VarDecl, readVarDecl}
+use Rattle.reading.specs.Module.{Module}
+use Rattle.reading.specs.Skip.{textAt}
+use Rattle.reading.proofs.Rules.{no}
+use Rattle.reading.proofs.HeadSound.{Bytes}
+use Rattle.reading.proofs.ItemLaws.{count-kind}
+use Rattle.reading.proofs.DeclLaws.{var-decl-laws}
+use Rattle.reading.proofs.Views.{var-decl-at}
+use Rattle.reading.proofs.ListViews.{list-at}
+use Rattle.reading.proofs.Walks.{name-text}
+use Rattle.typing.specs.Names.{member}
+use Rattle.typing.specs.Table.{afterItem, afterHead, pairsFrom, pairsOf, pairsAt, Filled}
+use Rattle.typing.proofs.TableLaws.{pairs-length}
+use Rattle.typing.proofs.EnvLaws.{entry, after-is, fields-head}
+use Rattle.findings.specs.Lists.{Placed, placed, each}
+use Rattle.findings.specs.Finding.{Note, note, noted}
+use Rattle.findings.specs.Mentions.{allTouched}
+use Rattle.findings.specs.Warnings.{unused}
+use Rattle.findings.specs.Noting.{Noted}
+use Rattle.findings.specs.Scene.{Reads, Scene}
+use Rattle.findings.specs.Touch.{varAt, TouchesAll, VarsFilled, Marked, MarksUsed, NotesUnmarked}
+use Rattle.findings.specs.WarningPromises.{NotesUnused}
+use Rattle.findings.proofs.NoteLaws.{note-as}
+use Rattle.findings.proofs.EachLaws.{Left, left-all, eachFrom, each-turn, each-done}
+use Rattle.findings.proofs.PresentLaws.{entry-of}
+
+-- the name of variable i, by the table of a list of variables
+module _ (s : List ℕ) (B : Bytes s) where
+  var-from : (vs : List VarDecl) (k n : ℕ) → entries (length vs) readVarDecl s k ≡ ok vs n → (i : ℕ) (v : VarDecl) → getElem? vs i ≡ some v → varAt s (pairsFrom (length vs) s k) i ≡ v .name
+  unfolding pairsFrom
+  var-from [] k n e i v q = no (cc)
+  var-from (x ∷ vs) k n e zero v q =
+      let u = entry readVarDecl s k x vs n e in
+      let w = var-decl-at s k x (u .end) (u .here) in
+      let z : x ≡ v = cc in
+      ap (textAt s) (fields-head 3 s k tt (w .name) (w .opens)) ∙ name-text s (w .name) (x .name) (w .ty) (w .name-is) ∙ ap (λ (y : VarDecl). y .name) z
+  var-from (x ∷ vs) k n e (suc i) v q =
+      let u = entry readVarDecl s k x vs n e in
+      let z : 2 * suc i ≡ suc (suc (2 * i)) = omega arith in
+      let p = after-is var-decl-laws s B k x (u .end) (u .here) in
+      rw z (ap (λ (j : ℕ). varAt s (pairsFrom (length vs) s j) i) p ∙ var-from vs (u .end) n (u .rest) i v q)
+
+  pub var-names : (at : ℕ) (vs : List VarDecl) → Reads (listOf maxList readVarDecl) s at vs → (length (pairsAt s at) ≡ 2 * length vs) × ((i : ℕ) (v : VarDecl) → getElem? vs i ≡ some v → varAt s (pairsAt s at) i ≡ v .name)
+  unfolding pairsAt pairsOf
+  var-names at vs g =
+      let l = list-at readVarDecl s maxList at vs (g .end) (g .is) in
+      rw (l .opens) (pairs-length (length vs) s (l .first), var-from vs (l .first) (g .end) (l .entries-are))
+
+pairs-few : (s : List ℕ) (at : ℕ) → length (pairsAt s at) ≤ 510
+unfolding pairsAt pairsOf
+pairs-few s at = go (readCount maxList s at) refl
+  where
+    go : (r : Read ℕ) → readCount maxList s at ≡ r → length (pairsOf s r) ≤ 510
+    go (ok c k) e = omega (arith, pairs-length c s k, count-kind s at maxList c k e .1)
+    go (refused f p) e = omega arith
+
+pub filled-few : (s : List ℕ) (at : ℕ) (table : List ℕ) (r : ℕ) (table′ : List ℕ) → Filled table (pairsAt s at) r table′ → r ≤ 510
+filled-few s at table r table′ f = omega (arith, pairs-few s at, f .many)
+
+-- the words that were filled are the pairs
+filled-part : (table pairs table′ : List ℕ) (r : ℕ) → Filled table pairs r table′ → length pairs ≤ length table → take r table′ ≡ pairs
+filled-part table pairs table′ r f h = ap (take r) (f .words ∙ sets-eq pairs table 0 (omega arith)) ∙ take-at pairs (drop (0 + length pairs) table) r (sym (f .many))
+
+getElem-below : {A : Type 0} (xs : List A) (i : ℕ) (x : A) → getElem? xs i ≡ some x → i < length xs
+getElem-below [] i x e = no (cc)
+getElem-below (y ∷ xs) zero x e = omega arith
+getElem-below (y ∷ xs) (suc i) x e = let h = getElem-below xs i x e in omega arith
+
+module _ (s places rows : List ℕ) (count : ℕ) {at r : ℕ} {table table′ m m′ : List ℕ} (e : at ≡ getD places 7 0) (f : VarsFilled s at table r table′) (t : TouchesAll s rows (take (r - 0) table′) m m′ places count) (h : length table ≡ 512) (z : m ≡ replicate 256 0) where
+  pub used-marked : MarksUsed s places rows count (r / 2) m′
+  used-marked = record {
+    many = λ x c.
+        let p = named x c in
+        let i = p .0 in
+        let j = f .filled .many in
+        omega arith;
+    of = λ x c w q. record {
+      at = λ k v g.
+          let p = named x c in
+          let u = t .of x c w q in
+          let i = p .0 in
+          let j = f .filled .many in
+          let l = getElem-below (x .vars) k v g in
+          let b = f .few in
+          let o = ap length part in
+          let a : getD m k 0 ≡ 0 = ap (λ (y : List ℕ). getD y k 0) z ∙ getD-replicate {A = ℕ} 256 k 0 0 (omega arith) in
+          let y : length m ≡ 256 = ap length z ∙ length-replicate {A = ℕ} 256 0 in
+          u .at k (omega arith) (omega arith)
+          ∙ ap (λ (b : ℕ). cond (member (varAt s (take (r - 0) table′) k) (allTouched x)) 1 b) a
+          ∙ ap (λ (ns : List ℕ). cond (member (varAt s ns k) (allTouched x)) 1 0) part
+          ∙ ap (λ (y : Name). cond (member y (allTouched x)) 1 0) (p .1 k v g);
+    };
+  }
+    where
+      part : take (r - 0) table′ ≡ pairsAt s at
+      part = rw sub-zero (filled-part table (pairsAt s at) table′ r (f .filled) (omega (arith, pairs-few s at)))
+
+      named : (x : Module) → Scene s places x → (length (pairsAt s at) ≡ 2 * length (x .vars)) × ((i : ℕ) (v : VarDecl) → getElem? (x .vars) i ≡ some v → varAt s (pairsAt s at) i ≡ v .name)
+      named x c = var-names s (f .each) at (x .vars) (rw e (c .vars-are))
+
+pub free-past : (marks : List ℕ) (k : ℕ) → length marks ≤ k → true ≡ eqb (getD marks k 0) 0
+free-past marks k h = sym (eq-eqb (getD marks k 0) 0 (List·getD-eq-default marks 0 h))
+
+-- what is noted of a variable
+abbrev unusedNote : List Name → Placed VarDecl → List Note
+unusedNote used v = noted (not (member (v .item .name) used)) (note 23 (v .place) 0 0)
+
+free-is : (b : Bool) {x : ℕ} → x ≡ cond b 1 0 → eqb x 0 ≡ not b
+free-is true e = rw e
+free-is false e = rw e
+
+module _ (owner : ℕ) (o : List ℕ) (skip n : ℕ) (marks : List ℕ) (count : ℕ) where
+  pub record UnmarkedLeft (k r : ℕ) (o′ : List ℕ) : Type 0 where
+    pub of : (used : List Name) (vs : List VarDecl) → Marked marks used vs → count ≡ length vs → Left owner o skip n (unused used vs) r o′ (eachFrom (unusedNote used) k vs)
+
+  pub unmarked-start : UnmarkedLeft 0 n o
+  unfolding unused
+  unmarked-start = record { of = λ used vs w q. left-all owner o skip n (unused used vs) }
+
+  module _ (k r : ℕ) {o′ : List ℕ} (g : UnmarkedLeft k r o′) where
+    pub unmarked-more : {free : Bool} {r′ : ℕ} {o″ : List ℕ} → k < count → free ≡ eqb (getD marks k 0) 0 → Noted owner o′ skip r (noted free (note 23 k 0 0)) r′ o″ → UnmarkedLeft (k + 1) r′ o″
+    unmarked-more {free} h e p = record {
+      of = λ used vs w q.
+          let x = entry-of vs k (omega arith) in
+          let y : free ≡ not (member (x .0 .name) used) = e ∙ free-is (member (x .0 .name) used) (w .at k (x .0) (x .1)) in
+          each-turn (unusedNote used) k vs (x .0) (x .1) (g .of used vs w q) (note-as owner (unusedNote used (record { place = k; item = x .0 })) (ap (λ (b : Bool). noted b (note 23 k 0 0)) y) p);
+    }
+
+    pub unmarked-done : count ≤ k → NotesUnmarked owner o skip n r o′ marks count
+    unmarked-done h = record { of = λ used vs w q. each-done (unusedNote used) k vs (omega arith) (g .of used vs w q) }
+
+pub unused-noted : (s : List ℕ) (owner : ℕ) (o : List ℕ) (skip n r : ℕ) (o′ rows : List ℕ) (count : ℕ) (places : List ℕ) {v : ℕ} {m : List ℕ} → MarksUsed s places rows count v m → NotesUnmarked owner o skip n r o′ m v → NotesUnused s owner o skip n r o′ rows count places
+unused-noted s owner o skip n r o′ rows count places u p = record { of = λ x c w q. p .of (allTouched x) (x .vars) (u .of x c w q) (u .many x c) }

@@ -1,0 +1,263 @@
+-- The variants that patterns of a group use: what each pattern adds, and what the answers say.
+use Prim.Native.Nat.{ℕ, zero, suc, _+_, _<_, _≤_}
+use mathlib.Core.Path.{_≡_, refl, sym, ap, subst, _∙_}
+use mathlib.Core.Logic.{_⊎_, inl, inr}
+use mathlib.Core.Bool.{Bool, true, false, cond, _&&_, _||_}
+use mathlib.Core.List.{List, [], _∷_, _++_, map, append-assoc, append-nil}
+use mathlib.Core.Option.{Option, none, some}
+use native.Mathlib.Omega.{arith}
+use lib.ListN.{length, getD, getElem?, set, drop, length-append, drop-of-length-le}
+use lib.Seq.{getD-set-same, getD-set-other}
+use lib.Dec.{eqb}
+use Rattle.reading.specs.Read.{ok, pick, Read}
+use Rattle.reading.specs.Limits.{maxList}
+use Rattle.reading.specs.Text.{Name}
+use Rattle.reading.specs.Combine.{listOf, optional}
+use Rattle.reading.specs.Decl.{ConstructorVariant, readConstructorVariant}
+use Rattle.reading.specs.Pattern.{Pattern, PatternVariant, readPatternVariant, readPattern}
+use Rattle.reading.specs.Transition.{Transition}
+use Rattle.reading.specs.Skip.{textAt}
+use Rattle.reading.specs.Views.{PatternVariantAt, unit-pattern, struct-pattern}
+use Rattle.reading.specs.declared.item.Tag.{Tag}
+use Rattle.reading.proofs.Rules.{no}
+use Rattle.reading.proofs.ExprLaws.{name-laws}
+use Rattle.reading.proofs.Views.{pattern-at}
+use Rattle.reading.proofs.CaseViews.{pattern-variant-at}
+use Rattle.reading.proofs.Walks.{name-text}
+use Rattle.typing.specs.Causes.{firstOf}
+use Rattle.typing.specs.Names.{eqName, member, called, firstCalled}
+use Rattle.typing.specs.Patterns.{declaredName, patternVariantName}
+use Rattle.typing.specs.Table.{placeAfter, afterItem, afterHead, afterTag, Past}
+use Rattle.typing.specs.First.{FirstVariant}
+use Rattle.typing.specs.declared.table.Found.{Found}
+use Rattle.typing.specs.declared.table.Found.the-variants.{At, Nothing}
+use Rattle.typing.proofs.EnvLaws.{after-is, fields-head}
+use Rattle.typing.proofs.FirstLaws.{found-no, found-yes}
+use Rattle.findings.specs.Lists.{any, each}
+use Rattle.findings.specs.Scene.{Reads, field, Rows}
+use Rattle.findings.specs.Uses.{variantNames, isBare, patternNames, patternBare, namedBy, bareBy, usedBy, Named, VariantsAt, variants-here, variants-none, AddsVariant, AddsUse, UsesOf, IsNamed, HasVariant, IsUsed}
+use Rattle.findings.specs.declared.uses.Uses.{Uses}
+use Rattle.findings.proofs.EachLaws.{drop-get}
+use Rattle.findings.proofs.PresentLaws.{not-given, is-given, entry-of, last-or-before}
+
+-- a name more, whose place goes to the next word
+get-append : {A : Type 0} (xs : List A) (y : A) (k : ℕ) (x : A) → getElem? (xs ++ (y ∷ [])) k ≡ some x → ((k ≡ length xs) × (y ≡ x)) ⊎ ((k < length xs) × (getElem? xs k ≡ some x))
+get-append [] y zero x e = inl (refl, cc)
+get-append [] y (suc k) x e = no (cc)
+get-append (z ∷ xs) y zero x e = inr (omega arith, e)
+get-append (z ∷ xs) y (suc k) x e = go (get-append xs y k x e)
+  where
+    go : ((k ≡ length xs) × (y ≡ x)) ⊎ ((k < length xs) × (getElem? xs k ≡ some x)) → ((suc k ≡ suc (length xs)) × (y ≡ x)) ⊎ ((suc k < suc (length xs)) × (getElem? xs k ≡ some x))
+    go (inl (p, q)) = inl (ap suc p, q)
+    go (inr (p, q)) = inr (omega arith, q)
+
+pub named-more : (s table : List ℕ) (c : ℕ) (ns : List Name) (key : ℕ) (w : Name) → Named s table c ns → c < length table → textAt s key ≡ w → Named s (set table c key) (c + 1) (ns ++ (w ∷ []))
+named-more s table c ns key w g h e = record {
+  many = let m = g .many in omega (arith, length-append ns (w ∷ []));
+  at = λ k x q. go k x (get-append ns w k x q);
+}
+  where
+    go : (k : ℕ) (x : Name) → ((k ≡ length ns) × (w ≡ x)) ⊎ ((k < length ns) × (getElem? ns k ≡ some x)) → textAt s (getD (set table c key) k 0) ≡ x
+    go k x (inl (p, q)) = ap (λ (i : ℕ). textAt s (getD (set table c key) i 0)) (p ∙ sym (g .many)) ∙ ap (textAt s) (getD-set-same table c key 0 h) ∙ e ∙ q
+    go k x (inr (p, q)) = ap (textAt s) (getD-set-other table c k key 0 (λ i. let m = g .many in omega arith)) ∙ g .at k x q
+
+pub named-as : (s table : List ℕ) (c : ℕ) {xs : List Name} (ys : List Name) → xs ≡ ys → Named s table c xs → Named s table c ys
+named-as s table c ys e g = subst (Named s table c) e g
+
+or-false : (b : Bool) → b ≡ (b || false)
+or-false true = refl
+or-false false = refl
+
+or-true : (b : Bool) → true ≡ (b || true)
+or-true true = refl
+or-true false = refl
+
+-- the name of a pattern's variant stands after the case number
+pattern-text : (s : List ℕ) {m c n : ℕ} {x : PatternVariant} → PatternVariantAt s m c x n → textAt s m ≡ patternVariantName x
+unfolding patternVariantName
+pattern-text s {m} (unit-pattern q) = name-text s m _ _ q
+pattern-text s {m} (struct-pattern q r) = name-text s m _ _ q
+
+variant-key : (s : List ℕ) (at : ℕ) (x : PatternVariant) → Reads readPatternVariant s at x → textAt s (afterTag s at) ≡ patternVariantName x
+unfolding placeAfter
+variant-key s at x g = let v = pattern-variant-at s at x (g .end) (g .is) in ap (λ (m : Read Tag). textAt s (placeAfter m)) (v .tagged) ∙ pattern-text s (v .fields)
+
+module _ (s : List ℕ) (at : ℕ) (table : List ℕ) (u : Uses) {b : Bool} (e : b ≡ eqb (getD s at 0) 246) where
+  pub variant-absent : b ≡ true → AddsVariant s at table u table (record { named = u .named; bare = true })
+  unfolding variantNames isBare
+  variant-absent q = record {
+    few = omega arith;
+    names = λ w g ns n. rw (not-given readPatternVariant e q g) (named-as s table (u .named) (ns ++ []) (sym (append-nil ns)) n);
+    bare = λ w g. rw (not-given readPatternVariant e q g) (or-true (u .bare));
+  }
+
+  pub variant-present : {key : ℕ} {table′ : List ℕ} → b ≡ false → u .named < 255 → length table ≡ 256 → key ≡ afterTag s at → table′ ≡ set table (u .named) key → AddsVariant s at table u table′ (record { named = u .named + 1; bare = u .bare })
+  unfolding variantNames isBare
+  variant-present {key} {table′} q h l k t = record {
+    few = omega arith;
+    names = λ w g ns n.
+        let v = is-given readPatternVariant e q g in
+        rw (v .1, t) (named-more s table (u .named) ns key (patternVariantName (v .0)) n (omega arith) (ap (textAt s) k ∙ variant-key s at (v .0) (v .2)));
+    bare = λ w g. let v = is-given readPatternVariant e q g in rw (v .1) (or-false (u .bare));
+  }
+
+module _ (s : List ℕ) (at : ℕ) (g : Name) (table : List ℕ) (u : Uses) {name : ℕ} {text : Name} {b : Bool} (h : name ≡ afterHead s at) (t : text ≡ textAt s name) (e : b ≡ eqName text g) where
+  group-test : (p : Pattern) (r : Reads readPattern s at p) → b ≡ eqName (p .group) g
+  group-test p r =
+      let v = pattern-at s at p (r .end) (r .is) in
+      e ∙ ap (λ (x : Name). eqName x g) (t ∙ ap (textAt s) (h ∙ fields-head 2 s at tt (v .group) (v .opens)) ∙ name-text s (v .group) (p .group) (v .variant) (v .group-is))
+
+  pub use-other : b ≡ false → AddsUse s at g table u table u
+  unfolding patternNames patternBare
+  use-other q = record {
+    few = omega arith;
+    names = λ p r ns n. rw (sym (group-test p r) ∙ q) (named-as s table (u .named) (ns ++ []) (sym (append-nil ns)) n);
+    bare = λ p r. rw (sym (group-test p r) ∙ q) (or-false (u .bare));
+  }
+
+  pub use-own : {variant : ℕ} {table′ : List ℕ} {u′ : Uses} → b ≡ true → Past s name variant → AddsVariant s variant table u table′ u′ → AddsUse s at g table u table′ u′
+  unfolding patternNames patternBare
+  use-own {variant} q o a = record {
+    few = a .few;
+    names = λ p r ns n. rw (sym (group-test p r) ∙ q) (a .names (p .variant) (there p r) ns n);
+    bare = λ p r. rw (sym (group-test p r) ∙ q) (a .bare (p .variant) (there p r));
+  }
+    where
+      there : (p : Pattern) → Reads readPattern s at p → Reads (optional readPatternVariant) s variant (p .variant)
+      there p r =
+          let v = pattern-at s at p (r .end) (r .is) in
+          let i : name ≡ v .group = h ∙ fields-head 2 s at tt (v .group) (v .opens) in
+          let j : variant ≡ v .variant = o .is ∙ ap (afterItem s) i ∙ after-is name-laws s (o .each) (v .group) (p .group) (v .variant) (v .group-is) in
+          record { end = r .end; is = rw j (v .variant-is) }
+
+-- the patterns from number i on are still to be added
+module _ (s rows : List ℕ) (count : ℕ) (g : Name) where
+  pub record UsesLeft (table : List ℕ) (i : ℕ) (u : Uses) : Type 0 where
+    pub few : u .named ≤ i
+    pub names : (ts : List Transition) → Rows s rows ts → count ≡ length ts → (ns : List Name) × Named s table (u .named) ns × (ns ++ namedBy g (drop i ts) ≡ namedBy g ts)
+    pub bare : (ts : List Transition) → Rows s rows ts → count ≡ length ts → (u .bare || bareBy g (drop i ts)) ≡ bareBy g ts
+
+  pub uses-start : (table : List ℕ) → UsesLeft table 0 (record { named = 0; bare = false })
+  uses-start table = record {
+    few = omega arith;
+    names = λ ts w q. ([], record { many = refl; at = λ k x e. no (cc) }, refl);
+    bare = λ ts w q. refl;
+  }
+
+  or-or : (a b c : Bool) → ((a || b) || c) ≡ (a || (b || c))
+  or-or true b c = refl
+  or-or false b c = refl
+
+  module _ (table : List ℕ) (i : ℕ) (u : Uses) (l : UsesLeft table i u) where
+    pub uses-more : {at : ℕ} {table′ : List ℕ} {u′ : Uses} → i < count → at ≡ field rows i 2 → AddsUse s at g table u table′ u′ → UsesLeft table′ (i + 1) u′
+    uses-more {at} {table′} {u′} h e a = record {
+      few = let x = a .few in let y = l .few in omega arith;
+      names = λ ts w q.
+          let t = entry-of ts i (omega arith) in
+          let d = drop-get ts i (t .0) (t .1) in
+          let v = l .names ts w q in
+          let p = t .0 .pattern in
+          (v .0 ++ patternNames g p, a .names p (here ts w t) (v .0) (v .1), append-assoc (v .0) (patternNames g p) (namedBy g (drop (i + 1) ts)) ∙ ap (λ (x : List Transition). v .0 ++ namedBy g x) (sym d) ∙ v .2);
+      bare = λ ts w q.
+          let t = entry-of ts i (omega arith) in
+          let d = drop-get ts i (t .0) (t .1) in
+          let p = t .0 .pattern in
+          ap (λ (b : Bool). b || bareBy g (drop (i + 1) ts)) (a .bare p (here ts w t)) ∙ or-or (u .bare) (patternBare g p) (bareBy g (drop (i + 1) ts)) ∙ ap (λ (x : List Transition). u .bare || bareBy g x) (sym d) ∙ l .bare ts w q;
+    }
+      where
+        here : (ts : List Transition) → Rows s rows ts → (t : (x : Transition) × (getElem? ts i ≡ some x)) → Reads readPattern s at (t .0 .pattern)
+        here ts w t = record { end = field rows i 3; is = rw e (w .at i (t .0) (t .1) .pattern-is) }
+
+    pub uses-done : count ≤ i → UsesOf s rows count g table u
+    uses-done h = record {
+      names = λ ts w q. let v = l .names ts w q in named-as s table (u .named) (namedBy g ts) (sym (append-nil (v .0)) ∙ ap (λ (x : List Transition). v .0 ++ namedBy g x) (sym (drop-of-length-le ts {i = i} (omega arith))) ∙ v .2) (v .1);
+      bare = λ ts w q. or-false (u .bare) ∙ ap (λ (x : List Transition). u .bare || bareBy g x) (sym (drop-of-length-le ts {i = i} (omega arith))) ∙ l .bare ts w q;
+    }
+
+-- a name among those whose places stand in a table
+module _ (s table : List ℕ) (count : ℕ) (w : Name) where
+  pub record NamesLeft (k : ℕ) : Type 0 where
+    pub of : (ns : List Name) → Named s table count ns → member w (drop k ns) ≡ member w ns
+
+  pub names-start : NamesLeft 0
+  names-start = record { of = λ ns n. refl }
+
+  module _ (k : ℕ) (l : NamesLeft k) where
+    pub names-done : count ≤ k → IsNamed s table count w false
+    unfolding member
+    names-done h = record { of = λ ns n. let m = n .many in ap (member w) (sym (drop-of-length-le ns {i = k} (omega arith))) ∙ l .of ns n }
+
+    module _ {key : ℕ} {text : Name} {b : Bool} (h : k < count) (e : key ≡ getD table k 0) (t : text ≡ textAt s key) (q : b ≡ eqName text w) where
+      here : (ns : List Name) → Named s table count ns → member w ns ≡ pick b true (member w (drop (k + 1) ns))
+      unfolding member
+      here ns n =
+          let m = n .many in
+          let x = entry-of ns k (omega arith) in
+          let i : eqName (x .0) w ≡ b = sym (q ∙ ap (λ (y : Name). eqName y w) (t ∙ ap (textAt s) e ∙ n .at k (x .0) (x .1))) in
+          sym (l .of ns n) ∙ ap (member w) (drop-get ns k (x .0) (x .1)) ∙ ap (λ (y : Bool). pick y true (member w (drop (k + 1) ns))) i
+
+      pub names-hit : b ≡ true → IsNamed s table count w true
+      unfolding pick
+      names-hit z = record { of = λ ns n. sym (here ns n ∙ ap (λ (y : Bool). pick y true (member w (drop (k + 1) ns))) z) }
+
+      pub names-miss : b ≡ false → NamesLeft (k + 1)
+      unfolding pick
+      names-miss z = record { of = λ ns n. sym (here ns n ∙ ap (λ (y : Bool). pick y true (member w (drop (k + 1) ns))) z) }
+
+-- a variant among those of a list that was found
+called-member : (w : Name) (xs : List ConstructorVariant) → firstCalled declaredName w xs ≡ none → member w (map declaredName xs) ≡ false
+unfolding firstCalled called firstOf member pick
+called-member w [] e = refl
+called-member w (x ∷ xs) e = go (eqName (declaredName x) w) refl (called-member w xs)
+  where
+    go : (b : Bool) → eqName (declaredName x) w ≡ b → (firstCalled declaredName w xs ≡ none → member w (map declaredName xs) ≡ false) → pick b true (member w (map declaredName xs)) ≡ false
+    go true q r = let z = rw q at e in no (cc)
+    go false q r = r (rw q at e)
+
+called-some : (w : Name) (xs : List ConstructorVariant) (v : ConstructorVariant) → firstCalled declaredName w xs ≡ some v → member w (map declaredName xs) ≡ true
+unfolding firstCalled called firstOf member pick
+called-some w [] v e = no (cc)
+called-some w (x ∷ xs) v e = go (eqName (declaredName x) w) refl (called-some w xs v)
+  where
+    go : (b : Bool) → eqName (declaredName x) w ≡ b → (firstCalled declaredName w xs ≡ some v → member w (map declaredName xs) ≡ true) → pick b true (member w (map declaredName xs)) ≡ true
+    go true q r = refl
+    go false q r = r (rw q at e)
+
+at-of : (s : List ℕ) {k : ℕ} {f : Found} {vs : List Name} → f ≡ At k → VariantsAt s f vs → (xs : List ConstructorVariant) × (vs ≡ map declaredName xs) × Reads (listOf maxList readConstructorVariant) s k xs
+at-of s {k} q (variants-here {k = j} {xs = xs} g) = let i : j ≡ k = cc in (xs, refl, subst (λ (y : ℕ). Reads (listOf maxList readConstructorVariant) s y xs) i g)
+at-of s q variants-none = no (cc)
+
+module _ (s : List ℕ) {f : Found} (w : Name) where
+  pub variant-nowhere : f ≡ Nothing → HasVariant s f w false
+  unfolding member
+  variant-nowhere q = record { of = λ vs g. go q g }
+    where
+      go : {vs : List Name} {f : Found} → f ≡ Nothing → VariantsAt s f vs → false ≡ member w vs
+      go q (variants-here g) = no (cc)
+      go q variants-none = refl
+
+  module _ {at : ℕ} {v : Found} (q : f ≡ At at) (h : FirstVariant s at w v) where
+    pub variant-found : {k : ℕ} → v ≡ At k → HasVariant s f w true
+    variant-found z = record {
+      of = λ vs g.
+          let x = at-of s q g in
+          let y = found-yes (h .of (x .0) (x .2 .end) (x .2 .is)) z in
+          sym (ap (member w) (x .1) ∙ called-some w (x .0) (y .0) (y .3));
+    }
+
+    pub variant-missing : v ≡ Nothing → HasVariant s f w false
+    variant-missing z = record {
+      of = λ vs g.
+          let x = at-of s q g in
+          sym (ap (member w) (x .1) ∙ called-member w (x .0) (found-no (h .of (x .0) (x .2 .end) (x .2 .is)) z));
+    }
+
+module _ (s : List ℕ) (f : Found) (table : List ℕ) (u : Uses) (w : Name) {b : Bool} (n : IsNamed s table (u .named) w b) where
+  pub used-named : b ≡ true → IsUsed s f table u w true
+  used-named q = record { of = λ vs ns g k. sym (ap (λ (x : Bool). x || (u .bare && member w vs)) (sym (n .of ns k) ∙ q)) }
+
+  pub used-bare : {r : Bool} → b ≡ false → u .bare ≡ true → HasVariant s f w r → IsUsed s f table u w r
+  used-bare q z h = record { of = λ vs ns g k. sym (ap (λ (x : Bool). x || (u .bare && member w vs)) (sym (n .of ns k) ∙ q) ∙ ap (λ (x : Bool). x && member w vs) z ∙ sym (h .of vs g)) }
+
+  pub used-not : b ≡ false → u .bare ≡ false → IsUsed s f table u w false
+  used-not q z = record { of = λ vs ns g k. sym (ap (λ (x : Bool). x || (u .bare && member w vs)) (sym (n .of ns k) ∙ q) ∙ ap (λ (x : Bool). x && member w vs) z) }

@@ -1,0 +1,14 @@
+-- A list has at most 255 entries.
+use borrow.Author.Needs.{needs}
+use native.Mathlib.Omega.{arith}
+use Rattle.findings.proofs.UnusedLaws.{filled-few}
+use Rattle.findings.proofs.unused.fill_vars.Statement.{statement}
+use Rattle.findings.proofs.unused.fill_vars.Tie as tie
+
+pub fill-vars-spec : {M : Type 1} → statement M
+fill-vars-spec =
+    tie.close
+    (tie.spec
+    (λ c κs. search needs)
+    (λ c. search needs)
+    (λ c. record { filled = search needs; few = search filled-few; each = λ i. omega (arith, c .before .before .before .before .before .shared-slice-known .given i) }))

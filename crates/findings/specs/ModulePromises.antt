@@ -1,0 +1,41 @@
+-- What the code of a whole module promises: the tables that it works on, and its errors and warnings.
+use Prim.Native.Nat.{ℕ, _*_, _≤_}
+use mathlib.Core.Path.{_≡_}
+use mathlib.Core.List.{List}
+use lib.ListN.{length, take}
+use Rattle.reading.specs.Read.{ok}
+use Rattle.reading.specs.Module.{Module, readModule}
+use Rattle.typing.specs.Env.{forModule, Agree}
+use Rattle.typing.specs.Table.{envAt}
+use Rattle.typing.specs.declared.table.Found.{Found}
+use Rattle.findings.specs.Mentions.{states}
+use Rattle.findings.specs.Errors.{claims, closing, errors}
+use Rattle.findings.specs.Warnings.{warnings}
+use Rattle.findings.specs.Noting.{Noted}
+use Rattle.findings.specs.Scene.{Bytes, Rows, Scene, StatesAt}
+use Rattle.findings.specs.Prints.{Prints}
+use Rattle.findings.specs.Promises.{Claims}
+use Rattle.findings.specs.declared.module.Named.{Named}
+
+-- the first words of three tables: a module's variables, its enums, its properties and assumptions
+pub record NamedAs (s : List ℕ) (r : Named) (table enums properties : List ℕ) (m : Module) : Type 0 where
+  pub agree : Agree (envAt s (take (2 * r .vars) table) (take (r .enums) enums)) (forModule m)
+  pub claims-are : Claims s (take (r .claims) properties) (claims m)
+
+pub record Names (s places : List ℕ) (r : Named) (table enums properties : List ℕ) : Type 0 where
+  pub few-enums : r .enums ≤ 510
+  pub few-claims : r .claims ≤ 1020
+  pub of : (m : Module) → Bytes s → Scene s places m → NamedAs s r table enums properties m
+
+module _ (s : List ℕ) (owner : ℕ) (o : List ℕ) (skip n r : ℕ) (o′ : List ℕ) (places : List ℕ) (found : Found) where
+  -- sites 16 to 20
+  pub record NotesClosing (names enums properties : List ℕ) : Type 0 where
+    pub of : (m : Module) → Scene s places m → StatesAt s found (states m) → Agree (envAt s names enums) (forModule m) → Claims s properties (claims m) → Noted owner o skip n (closing m) r o′
+
+  -- all errors; the first words of the table are the module's variables
+  pub record NotesErrors (rows prints : List ℕ) (count : ℕ) (names enums properties : List ℕ) : Type 0 where
+    pub of : (m : Module) → Scene s places m → Rows s rows (m .transitions) → Prints prints (m .transitions) → count ≡ length (m .transitions) → StatesAt s found (states m) → Agree (envAt s names enums) (forModule m) → Claims s properties (claims m) → Noted owner o skip n (errors m) r o′
+
+  -- all warnings
+  pub record NotesWarnings (rows prints : List ℕ) (count : ℕ) : Type 0 where
+    pub of : (m : Module) → Scene s places m → Rows s rows (m .transitions) → Prints prints (m .transitions) → count ≡ length (m .transitions) → StatesAt s found (states m) → Noted owner o skip n (warnings m) r o′

@@ -1,0 +1,31 @@
+-- Parts of a document, which is made of bytes: printed, and compared.
+use Prim.Native.Nat.{ℕ, _*_, _<_}
+use mathlib.Core.Path.{_≡_}
+use mathlib.Core.List.{List, [], _∷_}
+use mathlib.Core.Bool.{Bool}
+use lib.ListN.{getD}
+use lib.Seq.{sets}
+use Rattle.reading.specs.Skip.{textAt}
+use Rattle.reading.specs.Views.{span}
+use Rattle.typing.specs.Names.{eqName}
+use Rattle.findings.specs.Scene.{field}
+use Rattle.findings.specs.Prints.{print}
+
+abbrev pub Bytes : List ℕ → Type 0
+Bytes s = (i : ℕ) → getD s i 0 < 256
+
+pub record PrintPart (s : List ℕ) (from to h r : ℕ) : Type 0 where
+  pub is : r ≡ print h (span s from to)
+  pub each : Bytes s
+
+pub record SameSpan (s : List ℕ) (a b c d : ℕ) (r : Bool) : Type 0 where
+  pub is : r ≡ eqName (span s a b) (span s c d)
+  pub each : Bytes s
+
+-- the prints of row i: of the state, of the next state, and of the state with the pattern
+abbrev pub printsOf : List ℕ → List ℕ → ℕ → List ℕ
+printsOf s rows i = print 0 (textAt s (field rows i 1)) ∷ print 0 (textAt s (field rows i 4)) ∷ print (print 0 (textAt s (field rows i 1))) (span s (field rows i 2) (field rows i 3)) ∷ []
+
+pub record PrintedRow (s rows : List ℕ) (i : ℕ) (prints prints′ : List ℕ) : Type 0 where
+  pub words : prints′ ≡ sets prints (3 * i) (printsOf s rows i)
+  pub each : Bytes s

@@ -1,0 +1,88 @@
+-- Which variants of a group of events patterns use, and what the search for them promises: for whatever reads there, its answer is
+-- the definition's.
+use Prim.Native.Nat.{ℕ, _+_, _*_, _≤_}
+use mathlib.Core.Path.{_≡_}
+use mathlib.Core.List.{List, [], _∷_, _++_, map}
+use mathlib.Core.Bool.{Bool, true, false, cond, not, _&&_, _||_}
+use mathlib.Core.Option.{Option, none, some}
+use lib.ListN.{length, getD, getElem?}
+use Rattle.reading.specs.Limits.{maxList}
+use Rattle.reading.specs.Text.{Name}
+use Rattle.reading.specs.Combine.{listOf, optional}
+use Rattle.reading.specs.Decl.{ConstructorVariant, ConstructorGroup, readConstructorVariant}
+use Rattle.reading.specs.Pattern.{Pattern, PatternVariant, readPatternVariant, readPattern}
+use Rattle.reading.specs.Transition.{Transition}
+use Rattle.reading.specs.Skip.{textAt}
+use Rattle.typing.specs.Names.{eqName, member, firstCalled}
+use Rattle.typing.specs.Patterns.{declaredName, patternVariantName}
+use Rattle.typing.specs.declared.table.Found.{Found}
+use Rattle.typing.specs.declared.table.Found.the-variants.{At, Nothing}
+use Rattle.findings.specs.Lists.{Placed, placed, any, each}
+use Rattle.findings.specs.Finding.{Note, note, noted}
+use Rattle.findings.specs.Mentions.{groupName, groupVariants}
+use Rattle.findings.specs.Warnings.{deadIn, dead}
+use Rattle.findings.specs.Noting.{Noted}
+use Rattle.findings.specs.Scene.{Reads, Rows}
+use Rattle.findings.specs.Promises.{at-place}
+use Rattle.findings.specs.declared.uses.Uses.{Uses}
+
+-- the variant that a pattern names, or that it names none
+unfoldable pub variantNames : Option PatternVariant → List Name
+variantNames none = []
+variantNames (some v) = patternVariantName v ∷ []
+
+unfoldable pub isBare : Option PatternVariant → Bool
+isBare none = true
+isBare (some v) = false
+
+-- of a pattern of group g, and of those of transitions
+unfoldable pub patternNames : Name → Pattern → List Name
+patternNames g p = cond (eqName (p .group) g) (variantNames (p .variant)) []
+
+unfoldable pub patternBare : Name → Pattern → Bool
+patternBare g p = eqName (p .group) g && isBare (p .variant)
+
+abbrev pub namedBy : Name → List Transition → List Name
+namedBy g ts = each (λ t. patternNames g (t .pattern)) ts
+
+abbrev pub bareBy : Name → List Transition → Bool
+bareBy g ts = any (λ t. patternBare g (t .pattern)) ts
+
+-- a variant v is used by its name, or where one names none and the first group has it, with variants vs
+abbrev pub usedBy : Bool → List Name → List Name → Name → Bool
+usedBy bare vs ns v = member v ns || (bare && member v vs)
+
+-- the first words of a table are the places of names
+pub record Named (s table : List ℕ) (count : ℕ) (ns : List Name) : Type 0 where
+  pub many : count ≡ length ns
+  pub at : (k : ℕ) (w : Name) → getElem? ns k ≡ some w → textAt s (getD table k 0) ≡ w
+
+-- the names of the variants of a list that was found
+pub data VariantsAt (s : List ℕ) : Found → List Name → Type 0 where
+  variants-here : {k : ℕ} {xs : List ConstructorVariant} → Reads (listOf maxList readConstructorVariant) s k xs → VariantsAt s (At k) (map declaredName xs)
+  variants-none : VariantsAt s Nothing []
+
+-- what is added by a pattern's variant, and by a pattern; and what all transitions give
+pub record AddsVariant (s : List ℕ) (at : ℕ) (table : List ℕ) (u : Uses) (table′ : List ℕ) (u′ : Uses) : Type 0 where
+  pub few : u′ .named ≤ u .named + 1
+  pub names : (w : Option PatternVariant) → Reads (optional readPatternVariant) s at w → (ns : List Name) → Named s table (u .named) ns → Named s table′ (u′ .named) (ns ++ variantNames w)
+  pub bare : (w : Option PatternVariant) → Reads (optional readPatternVariant) s at w → u′ .bare ≡ (u .bare || isBare w)
+
+pub record AddsUse (s : List ℕ) (at : ℕ) (g : Name) (table : List ℕ) (u : Uses) (table′ : List ℕ) (u′ : Uses) : Type 0 where
+  pub few : u′ .named ≤ u .named + 1
+  pub names : (p : Pattern) → Reads readPattern s at p → (ns : List Name) → Named s table (u .named) ns → Named s table′ (u′ .named) (ns ++ patternNames g p)
+  pub bare : (p : Pattern) → Reads readPattern s at p → u′ .bare ≡ (u .bare || patternBare g p)
+
+pub record UsesOf (s rows : List ℕ) (count : ℕ) (g : Name) (table : List ℕ) (u : Uses) : Type 0 where
+  pub names : (ts : List Transition) → Rows s rows ts → count ≡ length ts → Named s table (u .named) (namedBy g ts)
+  pub bare : (ts : List Transition) → Rows s rows ts → count ≡ length ts → u .bare ≡ bareBy g ts
+
+-- questions
+pub record IsNamed (s table : List ℕ) (count : ℕ) (w : Name) (r : Bool) : Type 0 where
+  pub of : (ns : List Name) → Named s table count ns → r ≡ member w ns
+
+pub record HasVariant (s : List ℕ) (found : Found) (w : Name) (r : Bool) : Type 0 where
+  pub of : (vs : List Name) → VariantsAt s found vs → r ≡ member w vs
+
+pub record IsUsed (s : List ℕ) (found : Found) (table : List ℕ) (u : Uses) (w : Name) (r : Bool) : Type 0 where
+  pub of : (vs ns : List Name) → VariantsAt s found vs → Named s table (u .named) ns → r ≡ usedBy (u .bare) vs ns w

@@ -1,0 +1,132 @@
+// Pairs by state in byte order, and by places.
+use crate::order::mark_state;
+use crate::order::next_state;
+use crate::pairs::note_pair;
+use crate::pairs::same_fields;
+ghost use Prim.Native.Nat.{_+_, _<_, _≤_, _^_};
+ghost use lib.ListN.{length};
+ghost use Rattle.findings.specs.PairPromises.{NotesPairs};
+ghost use Rattle.findings.specs.StateSteps.{NotesLater, NotesRow, NotesOfState};
+
+// Notes the pairs of transition i and a later one.
+fn note_later(
+    doc: &[u8],
+    rows: &[usize],
+    prints: &[u32],
+    count: u8,
+    warn: bool,
+    i: u8,
+    out: &mut [u32],
+    skip: usize,
+    n: usize,
+    owner: u32,
+) -> usize
+    requires { ⌜ 768 ≤ length (now prints) ⌝ }
+    requires { ⌜ i < count ⌝ }
+    requires { ⌜ n + 510 ≤ 2 ^ 40 ⌝ }
+    ensures { λ r. ⌜ NotesLater (now (doc .entry)) owner (now (out .entry)) skip n r (now (out .exit)) (now (rows .entry)) (now (prints .entry)) count warn i ⌝ }
+    ensures { λ r. ⌜ r ≤ n + 510 ⌝ }
+{
+    let at = 3 * (i as usize) + 2;
+    let key = prints[at];
+    let mut m = n;
+    let mut j = i + 1;
+    while j < count {
+        let k = 3 * (j as usize) + 2;
+        if prints[k] == key {
+            m = note_pair(doc, rows, prints, i, j, warn, out, skip, m, owner);
+        }
+        j += 1;
+    }
+    m
+}
+
+// The same where transition i is of the state of transition b.
+fn note_row(
+    doc: &[u8],
+    rows: &[usize],
+    prints: &[u32],
+    count: u8,
+    warn: bool,
+    b: u8,
+    i: u8,
+    out: &mut [u32],
+    skip: usize,
+    n: usize,
+    owner: u32,
+) -> usize
+    requires { ⌜ 768 ≤ length (now prints) ⌝ }
+    requires { ⌜ i < count ⌝ }
+    requires { ⌜ n + 510 ≤ 2 ^ 40 ⌝ }
+    ensures { λ r. ⌜ NotesRow (now (doc .entry)) owner (now (out .entry)) skip n r (now (out .exit)) (now (rows .entry)) (now (prints .entry)) count warn b i ⌝ }
+    ensures { λ r. ⌜ r ≤ n + 510 ⌝ }
+{
+    if same_fields(doc, rows, b, 1, i, 1) {
+        return note_later(doc, rows, prints, count, warn, i, out, skip, n, owner);
+    }
+    n
+}
+
+// Notes the pairs whose earlier one is of the state of transition b.
+fn note_state(
+    doc: &[u8],
+    rows: &[usize],
+    prints: &[u32],
+    count: u8,
+    warn: bool,
+    b: u8,
+    out: &mut [u32],
+    skip: usize,
+    n: usize,
+    owner: u32,
+) -> usize
+    requires { ⌜ 768 ≤ length (now prints) ⌝ }
+    requires { ⌜ n + 130050 ≤ 2 ^ 40 ⌝ }
+    ensures { λ r. ⌜ NotesOfState (now (doc .entry)) owner (now (out .entry)) skip n r (now (out .exit)) (now (rows .entry)) (now (prints .entry)) count warn b ⌝ }
+    ensures { λ r. ⌜ r ≤ n + 130050 ⌝ }
+{
+    let at = 3 * (b as usize);
+    let key = prints[at];
+    let mut m = n;
+    let mut i: u8 = 0;
+    while i < count {
+        let k = 3 * (i as usize);
+        if prints[k] == key {
+            m = note_row(doc, rows, prints, count, warn, b, i, out, skip, m, owner);
+        }
+        i += 1;
+    }
+    m
+}
+
+// Notes the pairs of each state, the least first.
+pub(crate) fn note_by_state(
+    doc: &[u8],
+    rows: &[usize],
+    prints: &[u32],
+    count: u8,
+    warn: bool,
+    out: &mut [u32],
+    skip: usize,
+    n: usize,
+    owner: u32,
+) -> usize
+    requires { ⌜ 768 ≤ length (now prints) ⌝ }
+    requires { ⌜ n + 33162750 ≤ 2 ^ 40 ⌝ }
+    ensures { λ r. ⌜ NotesPairs (now (doc .entry)) owner (now (out .entry)) skip n r (now (out .exit)) (now (rows .entry)) (now (prints .entry)) count warn ⌝ }
+    ensures { λ r. ⌜ r ≤ n + 33162750 ⌝ }
+{
+    let mut done: [u8; 256] = [0; 256];
+    let mut m = n;
+    let mut turns: u8 = 0;
+    while turns < count {
+        let b = next_state(doc, rows, &done, count);
+        if count <= b {
+            return m;
+        }
+        m = note_state(doc, rows, prints, count, warn, b, out, skip, m, owner);
+        done = mark_state(doc, rows, prints, count, b, done);
+        turns += 1;
+    }
+    m
+}

@@ -1,0 +1,181 @@
+// Names mentioned by transitions and on_error: in guards, in the arguments of outputs, and the variables that are set.
+use crate::rows::field;
+use crate::rows::word;
+use crate::touch::touch;
+use crate::touch::touch_expr;
+use reading::Answer;
+use reading::Cursor;
+use reading::text_at;
+use typing::after;
+use typing::after_head;
+use typing::null_at;
+ghost use Rattle.reading.specs.Transition.{readTopExpr, readOnError};
+ghost use Rattle.findings.specs.Mentions.{guardNames, errorTouched};
+ghost use Rattle.findings.specs.Touch.{TouchesArgs, TouchesOutput, TouchesEmits, TouchesSet, TouchesSets, Mentions, TouchesRow, TouchesRows, TouchesAll};
+
+// The list of arguments at a place; the place after it.
+pub(crate) fn touch_args<'a>(
+    doc: &'a [u8],
+    at: usize,
+    names: &'a [usize],
+    marks: &mut [u8],
+) -> usize
+    ensures { λ r. ⌜ TouchesArgs (now (doc .entry)) at (now (names .entry)) (now (marks .entry)) r (now (marks .exit)) ⌝ }
+{
+    let c = Cursor { at };
+    let a = c.count(doc, 255);
+    let Answer::Got(count, first) = a else {
+        return at;
+    };
+    let mut k = first.at;
+    let mut left = count;
+    while 0 < left {
+        k = touch_expr(doc, k, 32, names, marks);
+        left -= 1;
+    }
+    k
+}
+
+// The output at a place; the place after it.
+pub(crate) fn touch_output<'a>(
+    doc: &'a [u8],
+    at: usize,
+    names: &'a [usize],
+    marks: &mut [u8],
+) -> usize
+    ensures { λ r. ⌜ TouchesOutput (now (doc .entry)) at (now (names .entry)) (now (marks .entry)) r (now (marks .exit)) ⌝ }
+{
+    let group = after_head(doc, at);
+    let variant = after(doc, group);
+    let args = after(doc, variant);
+    touch_args(doc, args, names, marks)
+}
+
+// The list of outputs at a place; the place after it.
+pub(crate) fn touch_emits<'a>(
+    doc: &'a [u8],
+    at: usize,
+    names: &'a [usize],
+    marks: &mut [u8],
+) -> usize
+    ensures { λ r. ⌜ TouchesEmits (now (doc .entry)) at (now (names .entry)) (now (marks .entry)) r (now (marks .exit)) ⌝ }
+{
+    let c = Cursor { at };
+    let a = c.count(doc, 255);
+    let Answer::Got(count, first) = a else {
+        return at;
+    };
+    let mut k = first.at;
+    let mut left = count;
+    while 0 < left {
+        k = touch_output(doc, k, names, marks);
+        left -= 1;
+    }
+    k
+}
+
+// The variable that the set at a place sets; the place after it.
+pub(crate) fn touch_set<'a>(doc: &'a [u8], at: usize, names: &'a [usize], marks: &mut [u8]) -> usize
+    ensures { λ r. ⌜ TouchesSet (now (doc .entry)) at (now (names .entry)) (now (marks .entry)) r (now (marks .exit)) ⌝ }
+{
+    let var = after_head(doc, at);
+    touch(doc, names, text_at(doc, var), marks);
+    let value = after(doc, var);
+    after(doc, value)
+}
+
+// Those of the list of sets at a place; the place after it.
+pub(crate) fn touch_sets<'a>(
+    doc: &'a [u8],
+    at: usize,
+    names: &'a [usize],
+    marks: &mut [u8],
+) -> usize
+    ensures { λ r. ⌜ TouchesSets (now (doc .entry)) at (now (names .entry)) (now (marks .entry)) r (now (marks .exit)) ⌝ }
+{
+    let c = Cursor { at };
+    let a = c.count(doc, 255);
+    let Answer::Got(count, first) = a else {
+        return at;
+    };
+    let mut k = first.at;
+    let mut left = count;
+    while 0 < left {
+        k = touch_set(doc, k, names, marks);
+        left -= 1;
+    }
+    k
+}
+
+// The guard at a place, if there is one.
+pub(crate) fn touch_guard<'a>(doc: &'a [u8], at: usize, names: &'a [usize], marks: &mut [u8])
+    ensures { λ _. ⌜ Mentions readTopExpr guardNames (now (doc .entry)) at (now (names .entry)) (now (marks .entry)) (now (marks .exit)) ⌝ }
+{
+    if null_at(doc, at) {
+        return;
+    }
+    touch_expr(doc, at, 32, names, marks);
+}
+
+// Transition i.
+pub(crate) fn touch_row<'a>(
+    doc: &'a [u8],
+    rows: &'a [usize],
+    i: u8,
+    names: &'a [usize],
+    marks: &mut [u8],
+)
+    ensures { λ _. ⌜ TouchesRow (now (doc .entry)) (now (rows .entry)) (now (names .entry)) (now (marks .entry)) (now (marks .exit)) i ⌝ }
+{
+    let guard = field(rows, i, 3);
+    touch_guard(doc, guard, names, marks);
+    let emits = field(rows, i, 5);
+    touch_emits(doc, emits, names, marks);
+    let sets = field(rows, i, 6);
+    touch_sets(doc, sets, names, marks);
+}
+
+// All transitions.
+pub(crate) fn touch_rows<'a>(
+    doc: &'a [u8],
+    rows: &'a [usize],
+    count: u8,
+    names: &'a [usize],
+    marks: &mut [u8],
+)
+    ensures { λ _. ⌜ TouchesRows (now (doc .entry)) (now (rows .entry)) (now (names .entry)) (now (marks .entry)) (now (marks .exit)) count ⌝ }
+{
+    let mut i: u8 = 0;
+    while i < count {
+        touch_row(doc, rows, i, names, marks);
+        i += 1;
+    }
+}
+
+// The outputs of on_error at a place, if there is one.
+pub(crate) fn touch_error<'a>(doc: &'a [u8], at: usize, names: &'a [usize], marks: &mut [u8])
+    ensures { λ _. ⌜ Mentions readOnError errorTouched (now (doc .entry)) at (now (names .entry)) (now (marks .entry)) (now (marks .exit)) ⌝ }
+{
+    if null_at(doc, at) {
+        return;
+    }
+    let next = after_head(doc, at);
+    let emits = after(doc, next);
+    touch_emits(doc, emits, names, marks);
+}
+
+// A whole module, by the places of its fields and the rows of its transitions.
+pub(crate) fn touch_all<'a>(
+    doc: &'a [u8],
+    places: &'a [usize],
+    rows: &'a [usize],
+    count: u8,
+    names: &'a [usize],
+    marks: &mut [u8],
+)
+    ensures { λ _. ⌜ TouchesAll (now (doc .entry)) (now (rows .entry)) (now (names .entry)) (now (marks .entry)) (now (marks .exit)) (now (places .entry)) count ⌝ }
+{
+    touch_rows(doc, rows, count, names, marks);
+    let at = word(places, 2);
+    touch_error(doc, at, names, marks);
+}

@@ -1,0 +1,40 @@
+// Priorities of two transitions: null, or a number.
+use reading::Answer;
+use reading::Cursor;
+use typing::null_at;
+ghost use Rattle.findings.specs.PairSteps.{PriorityAt, EqualPriority, NoPriority};
+
+// The number at a place; 0 where none stands there.
+fn priority_at(doc: &[u8], at: usize) -> u64
+    ensures { λ r. ⌜ PriorityAt (now (doc .entry)) at r ⌝ }
+{
+    let c = Cursor { at };
+    let a = c.number(doc, 4294967295);
+    let Answer::Got(v, _) = a else {
+        return 0;
+    };
+    v
+}
+
+// Whether both are given and equal.
+pub(crate) fn equal_priority(doc: &[u8], p: usize, q: usize) -> bool
+    ensures { λ r. ⌜ EqualPriority (now (doc .entry)) p q r ⌝ }
+{
+    if null_at(doc, p) {
+        return false;
+    }
+    if null_at(doc, q) {
+        return false;
+    }
+    priority_at(doc, p) == priority_at(doc, q)
+}
+
+// Whether neither is given.
+pub(crate) fn no_priority(doc: &[u8], p: usize, q: usize) -> bool
+    ensures { λ r. ⌜ NoPriority (now (doc .entry)) p q r ⌝ }
+{
+    if null_at(doc, p) {
+        return null_at(doc, q);
+    }
+    false
+}

@@ -1,0 +1,215 @@
+// What is noted of each transition by itself.
+use crate::emits::note_emits;
+use crate::guard::note_guard;
+use crate::rows::field;
+use crate::rows::word;
+use crate::sets::note_sets;
+use crate::sheet::emit_cause;
+use crate::states::note_state;
+use typing::Bindings;
+use typing::Found;
+use typing::blame_number;
+use typing::validate_event_pattern;
+ghost use mathlib.Core.Path.{_≡_};
+ghost use Prim.Native.Nat.{_+_, _*_, _≤_, _^_};
+ghost use lib.ListN.{length, getD, take};
+ghost use Rattle.typing.specs.Blames.{Spares, JudgesPattern};
+ghost use Rattle.findings.specs.Scene.{field};
+ghost use Rattle.findings.specs.Promises.{NotesBody, NotesHeads, NotesJudged, NotesTransition, NotesTransitions};
+
+// Sites 9 to 13, of transition i: its guard, its assignments, then its outputs.
+pub(crate) fn note_body<'a>(
+    doc: &'a [u8],
+    rows: &'a [usize],
+    i: u8,
+    outputs: usize,
+    vars: &'a [usize],
+    names: &'a [usize],
+    enums: &'a [usize],
+    out: &mut [u32],
+    skip: usize,
+    n: usize,
+    owner: u32,
+) -> usize
+    requires { ⌜ n + 511 ≤ 2 ^ 40 ⌝ }
+    ensures { λ r. ⌜ NotesBody (now (doc .entry)) owner (now (out .entry)) skip n r (now (out .exit)) (now (rows .entry)) i outputs (now (vars .entry)) (now (names .entry)) (now (enums .entry)) ⌝ }
+    ensures { λ r. ⌜ r ≤ n + 511 ⌝ }
+{
+    let guard = field(rows, i, 3);
+    let a = note_guard(doc, guard, i, names, enums, out, skip, n, owner);
+    let sets = field(rows, i, 6);
+    let b = note_sets(doc, sets, i, vars, names, enums, out, skip, a, owner);
+    let emits = field(rows, i, 5);
+    note_emits(doc, emits, i, outputs, names, enums, out, skip, b, owner)
+}
+
+// Sites 6 to 8, of transition i: its states, and its pattern by the number of what is wrong with it.
+fn note_heads<'a>(
+    doc: &'a [u8],
+    rows: &'a [usize],
+    i: u8,
+    found: Found,
+    cause: u32,
+    out: &mut [u32],
+    skip: usize,
+    n: usize,
+    owner: u32,
+) -> usize
+    requires { ⌜ n + 3 ≤ 2 ^ 40 ⌝ }
+    ensures { λ r. ⌜ NotesHeads (now (doc .entry)) owner (now (out .entry)) skip n r (now (out .exit)) (now (rows .entry)) i found cause ⌝ }
+    ensures { λ r. ⌜ r ≤ n + 3 ⌝ }
+{
+    let first = i as u32;
+    let state = field(rows, i, 1);
+    let a = note_state(doc, found, state, out, skip, n, owner, 6, first);
+    let next = field(rows, i, 4);
+    let b = note_state(doc, found, next, out, skip, a, owner, 7, first);
+    emit_cause(cause, out, skip, b, owner, 8, first, 0)
+}
+
+// Sites 6 to 13, of transition i: by the number of what is wrong with its pattern, and by the table of all names, of which the first k
+// words are those of the module's variables.
+fn note_judged<'a>(
+    doc: &'a [u8],
+    places: &'a [usize],
+    rows: &'a [usize],
+    i: u8,
+    found: Found,
+    cause: u32,
+    names: &'a [usize],
+    k: usize,
+    enums: &'a [usize],
+    out: &mut [u32],
+    skip: usize,
+    n: usize,
+    owner: u32,
+) -> usize
+    requires { ⌜ n + 514 ≤ 2 ^ 40 ⌝ }
+    requires { ⌜ k ≤ length (now names) ⌝ }
+    ensures { λ r. ⌜ NotesJudged (now (doc .entry)) owner (now (out .entry)) skip n r (now (out .exit)) (now (places .entry)) (now (rows .entry)) i found cause (take k (now (names .entry))) (now (names .entry)) (now (enums .entry)) ⌝ }
+    ensures { λ r. ⌜ r ≤ n + 514 ⌝ }
+{
+    let a = note_heads(doc, rows, i, found, cause, out, skip, n, owner);
+    let outputs = word(places, 6);
+    let vars = &names[0..k];
+    note_body(
+        doc,
+        rows,
+        i,
+        outputs,
+        vars,
+        names,
+        enums,
+        out,
+        skip,
+        a,
+        owner,
+    )
+}
+
+// The pattern of transition i, by the module's groups of events.
+fn judge_pattern<'a>(
+    doc: &'a [u8],
+    places: &'a [usize],
+    rows: &'a [usize],
+    i: u8,
+    table: &mut [usize],
+    k: usize,
+) -> Bindings
+    ensures { λ r. ⌜ JudgesPattern (now (doc .entry)) (field (now (rows .entry)) i 2) (getD (now (places .entry)) 5 0) (now (table .entry)) k r (now (table .exit)) ⌝ }
+    ensures { λ r. ⌜ Spares (now (table .entry)) k r (now (table .exit)) ⌝ }
+{
+    let at = field(rows, i, 2);
+    let events = word(places, 5);
+    validate_event_pattern(doc, at, events, table, k)
+}
+
+// Sites 6 to 13, of transition i. The table has two words for each of the module's variables; those of the pattern's bindings go after
+// them.
+pub(crate) fn note_transition<'a>(
+    doc: &'a [u8],
+    places: &'a [usize],
+    rows: &'a [usize],
+    i: u8,
+    found: Found,
+    table: &mut [usize],
+    vars: u8,
+    enums: &'a [usize],
+    out: &mut [u32],
+    skip: usize,
+    n: usize,
+    owner: u32,
+) -> usize
+    requires { ⌜ n + 514 ≤ 2 ^ 40 ⌝ }
+    requires { ⌜ 1020 ≤ length (now table) ⌝ }
+    ensures { λ r. ⌜ NotesTransition (now (doc .entry)) owner (now (out .entry)) skip n r (now (out .exit)) (now (places .entry)) (now (rows .entry)) i found (now (table .entry)) (2 * vars) (now (enums .entry)) ⌝ }
+    ensures { λ r. ⌜ r ≤ n + 514 ⌝ }
+    ensures { λ _. ⌜ length (now (table .exit)) ≡ length (now (table .entry)) ⌝ }
+    ensures { λ _. ⌜ take (2 * vars) (now (table .exit)) ≡ take (2 * vars) (now (table .entry)) ⌝ }
+{
+    let k = 2 * (vars as usize);
+    let p = judge_pattern(doc, places, rows, i, table, k);
+    let blame = p.blame;
+    let cause = blame_number(doc, blame);
+    let end = k + p.words;
+    let names = &table[0..end];
+    note_judged(
+        doc,
+        places,
+        rows,
+        i,
+        found,
+        cause,
+        names,
+        k,
+        enums,
+        out,
+        skip,
+        n,
+        owner,
+    )
+}
+
+// The same of so many transitions.
+pub(crate) fn note_transitions<'a>(
+    doc: &'a [u8],
+    places: &'a [usize],
+    rows: &'a [usize],
+    count: u8,
+    found: Found,
+    table: &mut [usize],
+    vars: u8,
+    enums: &'a [usize],
+    out: &mut [u32],
+    skip: usize,
+    n: usize,
+    owner: u32,
+) -> usize
+    requires { ⌜ n + 131070 ≤ 2 ^ 40 ⌝ }
+    requires { ⌜ 1020 ≤ length (now table) ⌝ }
+    ensures { λ r. ⌜ NotesTransitions (now (doc .entry)) owner (now (out .entry)) skip n r (now (out .exit)) (now (places .entry)) (now (rows .entry)) count found (now (table .entry)) (2 * vars) (now (enums .entry)) ⌝ }
+    ensures { λ r. ⌜ r ≤ n + 131070 ⌝ }
+    ensures { λ _. ⌜ length (now (table .exit)) ≡ length (now (table .entry)) ⌝ }
+    ensures { λ _. ⌜ take (2 * vars) (now (table .exit)) ≡ take (2 * vars) (now (table .entry)) ⌝ }
+{
+    let mut i: u8 = 0;
+    let mut next = n;
+    while i < count {
+        next = note_transition(
+            doc,
+            places,
+            rows,
+            i,
+            found,
+            table,
+            vars,
+            enums,
+            out,
+            skip,
+            next,
+            owner,
+        );
+        i += 1;
+    }
+    next
+}

@@ -1,0 +1,94 @@
+// Variables that nothing mentions: site 23.
+use crate::mentions::touch_all;
+use crate::rows::word;
+use crate::sheet::emit_if;
+use typing::fill_table;
+ghost use mathlib.Core.Path.{_≡_};
+ghost use Prim.Native.Nat.{_+_, _≤_, _^_};
+ghost use lib.ListN.{length, getD, replicate};
+ghost use lib.Dec.{eqb};
+ghost use Rattle.findings.specs.Touch.{VarsFilled, MarksUsed, NotesUnmarked};
+ghost use Rattle.findings.specs.WarningPromises.{NotesUnused};
+
+// Whether variable k is not marked.
+pub(crate) fn is_free(marks: &[u8], k: u8) -> bool
+    ensures { λ r. ⌜ r ≡ eqb (getD (now (marks .entry)) k 0) 0 ⌝ }
+{
+    let at = k as usize;
+    if at < marks.len() {
+        return marks[at] == 0;
+    }
+    true
+}
+
+// A note for each of so many variables that is not marked.
+pub(crate) fn note_unmarked(
+    marks: &[u8],
+    count: u8,
+    out: &mut [u32],
+    skip: usize,
+    n: usize,
+    owner: u32,
+) -> usize
+    requires { ⌜ n + 255 ≤ 2 ^ 40 ⌝ }
+    ensures { λ r. ⌜ NotesUnmarked owner (now (out .entry)) skip n r (now (out .exit)) (now (marks .entry)) count ⌝ }
+    ensures { λ r. ⌜ r ≤ n + 255 ⌝ }
+{
+    let mut m = n;
+    let mut k: u8 = 0;
+    while k < count {
+        let free = is_free(marks, k);
+        m = emit_if(free, out, skip, m, owner, 23, k as u32, 0);
+        k += 1;
+    }
+    m
+}
+
+// Fills the table of the variables at a place; how many words it takes.
+pub(crate) fn fill_vars(doc: &[u8], at: usize, table: &mut [usize]) -> usize
+    ensures { λ r. ⌜ VarsFilled (now (doc .entry)) at (now (table .entry)) r (now (table .exit)) ⌝ }
+{
+    fill_table(doc, at, table)
+}
+
+// Marks the variables that are mentioned; how many variables there are.
+pub(crate) fn mark_used<'a>(
+    doc: &'a [u8],
+    places: &'a [usize],
+    rows: &'a [usize],
+    count: u8,
+    table: &mut [usize],
+    marks: &mut [u8],
+) -> u8
+    requires { ⌜ length (now table) ≡ 512 ⌝ }
+    requires { ⌜ now marks ≡ replicate 256 0 ⌝ }
+    ensures { λ r. ⌜ MarksUsed (now (doc .entry)) (now (places .entry)) (now (rows .entry)) count r (now (marks .exit)) ⌝ }
+{
+    let at = word(places, 7);
+    let w = fill_vars(doc, at, table);
+    let vars = w / 2;
+    let many = vars as u8;
+    touch_all(doc, places, rows, count, &table[0..w], marks);
+    many
+}
+
+// Site 23 of a module, by the places of its fields and the rows of its transitions.
+pub(crate) fn note_unused<'a>(
+    doc: &'a [u8],
+    places: &'a [usize],
+    rows: &'a [usize],
+    count: u8,
+    out: &mut [u32],
+    skip: usize,
+    n: usize,
+    owner: u32,
+) -> usize
+    requires { ⌜ n + 255 ≤ 2 ^ 40 ⌝ }
+    ensures { λ r. ⌜ NotesUnused (now (doc .entry)) owner (now (out .entry)) skip n r (now (out .exit)) (now (rows .entry)) count (now (places .entry)) ⌝ }
+    ensures { λ r. ⌜ r ≤ n + 255 ⌝ }
+{
+    let mut table = [0usize; 512];
+    let mut marks = [0u8; 256];
+    let vars = mark_used(doc, places, rows, count, &mut table, &mut marks);
+    note_unmarked(&marks, vars, out, skip, n, owner)
+}

@@ -1,0 +1,132 @@
+// Variants of a group of events that patterns use.
+use crate::rows::field;
+use crate::rows::word;
+use reading::text_at;
+use typing::Found;
+use typing::after;
+use typing::after_head;
+use typing::after_tag;
+use typing::first_variant;
+use typing::null_at;
+use typing::same;
+use typing::store;
+ghost use mathlib.Core.Path.{_≡_};
+ghost use Prim.Native.Nat.{_<_};
+ghost use lib.ListN.{length};
+ghost use Rattle.findings.specs.Uses.{AddsVariant, AddsUse, UsesOf, IsNamed, HasVariant, IsUsed};
+
+// How many variants the patterns of a group name, and whether one of them names none.
+pub struct Uses {
+    pub named: u8,
+    pub bare: bool,
+}
+
+// The pattern's variant at a place is added: the place of its name goes into the table.
+pub(crate) fn add_variant(doc: &[u8], at: usize, table: &mut [usize], u: Uses) -> Uses
+    requires { ⌜ u .named < 255 ⌝ }
+    requires { ⌜ length (now table) ≡ 256 ⌝ }
+    ensures { λ r. ⌜ AddsVariant (now (doc .entry)) at (now (table .entry)) u (now (table .exit)) r ⌝ }
+{
+    let named = u.named;
+    if null_at(doc, at) {
+        return Uses { named, bare: true };
+    }
+    let key = after_tag(doc, at);
+    store(table, named as usize, key);
+    Uses {
+        named: named + 1,
+        bare: u.bare,
+    }
+}
+
+// The same of the pattern at a place, where it is of the group.
+pub(crate) fn add_use<'a>(
+    doc: &'a [u8],
+    at: usize,
+    group: &'a [u8],
+    table: &mut [usize],
+    u: Uses,
+) -> Uses
+    requires { ⌜ u .named < 255 ⌝ }
+    requires { ⌜ length (now table) ≡ 256 ⌝ }
+    ensures { λ r. ⌜ AddsUse (now (doc .entry)) at (now (group .entry)) (now (table .entry)) u (now (table .exit)) r ⌝ }
+{
+    let name = after_head(doc, at);
+    if same(text_at(doc, name), group) {
+        let variant = after(doc, name);
+        return add_variant(doc, variant, table, u);
+    }
+    u
+}
+
+// The same of all transitions.
+pub(crate) fn fill_uses<'a>(
+    doc: &'a [u8],
+    rows: &'a [usize],
+    count: u8,
+    group: &'a [u8],
+    table: &mut [usize],
+) -> Uses
+    requires { ⌜ length (now table) ≡ 256 ⌝ }
+    ensures { λ r. ⌜ UsesOf (now (doc .entry)) (now (rows .entry)) count (now (group .entry)) (now (table .exit)) r ⌝ }
+{
+    let mut u = Uses {
+        named: 0,
+        bare: false,
+    };
+    let mut i: u8 = 0;
+    while i < count {
+        let at = field(rows, i, 2);
+        u = add_use(doc, at, group, table, u);
+        i += 1;
+    }
+    u
+}
+
+// Whether a name is among those whose places stand in the table.
+pub(crate) fn is_named<'a>(doc: &'a [u8], table: &'a [usize], count: u8, name: &'a [u8]) -> bool
+    ensures { λ r. ⌜ IsNamed (now (doc .entry)) (now (table .entry)) count (now (name .entry)) r ⌝ }
+{
+    let mut k: u8 = 0;
+    while k < count {
+        let key = word(table, k as usize);
+        if same(text_at(doc, key), name) {
+            return true;
+        }
+        k += 1;
+    }
+    false
+}
+
+// Whether the list of variants that was found has one of the name.
+pub(crate) fn has_variant<'a>(doc: &'a [u8], found: Found, name: &'a [u8]) -> bool
+    ensures { λ r. ⌜ HasVariant (now (doc .entry)) found (now (name .entry)) r ⌝ }
+{
+    let Found::At(at) = found else {
+        return false;
+    };
+    let v = first_variant(doc, at, name);
+    match v {
+        Found::At(_) => true,
+        Found::Nothing => false,
+    }
+}
+
+// Whether patterns use the variant of a name: one without variant uses those of the first group, which were found.
+pub(crate) fn is_used<'a>(
+    doc: &'a [u8],
+    found: Found,
+    table: &'a [usize],
+    u: Uses,
+    name: &'a [u8],
+) -> bool
+    ensures { λ r. ⌜ IsUsed (now (doc .entry)) found (now (table .entry)) u (now (name .entry)) r ⌝ }
+{
+    if is_named(doc, table, u.named, name) {
+        return true;
+    }
+    if u.bare {
+        return has_variant(doc, found, name);
+    }
+    false
+}
