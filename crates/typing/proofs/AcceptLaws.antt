@@ -40,7 +40,7 @@ use Rattle.typing.specs.Table.{exprTypeAt}
 use Rattle.typing.specs.Accepts.{intOn, boolOn, enumName, nameFound, EnumOf, VariantOf, AcceptsInt, AcceptsPath, Accepts}
 use Rattle.typing.specs.declared.ty.Ty.{Ty as CodeTy}
 use Rattle.typing.specs.declared.ty.Ty.the-variants as ty
-use Rattle.typing.specs.declared.cause.Cause.the-variants.{BooleanLiteral, IntegerOnBool, IntegerOnEnum, DoesNotFit, VariantOnNonEnum, VariantPath}
+use Rattle.typing.specs.declared.cause.Cause.the-variants.{IntegerOnBool, IntegerOnEnum, DoesNotFit, VariantOnNonEnum, VariantPath}
 use Rattle.typing.specs.declared.rules.Fit.{Fit}
 use Rattle.typing.specs.declared.rules.Fit.the-variants.{Fine, Unfit}
 use Rattle.typing.specs.declared.table.Found.{Found}
@@ -271,21 +271,3 @@ module _ (s : List ℕ) (at ty : ℕ) {a : Tagged} (e : a ≡ taggedOf (readTag 
         go (int-pattern u) i y = absurd (omega arith)
         go (bool-pattern u) i y = absurd (omega arith)
         go (path-pattern u) i y = absurd (omega arith)
-
--- a boolean literal
-module _ (s : List ℕ) (τ : CodeTy) where
-  pub bool-bit : {w : ℕ} → τ ≡ ty.Bit w → unfitOf s (Unfit BooleanLiteral) ≡ boolOn (tyOf s τ)
-  unfolding unfitOf causeOf boolOn tyOf
-  bool-bit k = rw k
-
-  pub bool-literal : τ ≡ ty.IntLit → unfitOf s (Unfit BooleanLiteral) ≡ boolOn (tyOf s τ)
-  unfolding unfitOf causeOf boolOn tyOf
-  bool-literal k = rw k
-
-  pub bool-state : τ ≡ ty.State → unfitOf s (Unfit BooleanLiteral) ≡ boolOn (tyOf s τ)
-  unfolding unfitOf causeOf boolOn tyOf
-  bool-state k = rw k
-
-  pub bool-enum : {p : ℕ} → τ ≡ ty.Enum p → unfitOf s (Unfit BooleanLiteral) ≡ boolOn (tyOf s τ)
-  unfolding unfitOf causeOf boolOn tyOf
-  bool-enum k = rw k
