@@ -31,7 +31,7 @@ use Rattle.reading.proofs.CaseViews.{constructor-variant-at, pattern-variant-at
 use Rattle.reading.proofs.ListViews.{list-at}
 use Rattle.typing.specs.Outputs.{fieldsOf}
 use Rattle.typing.specs.Table.{placeAfter, afterItem, afterTag, Past}
-use Rattle.typing.specs.Entries.{opened, Entered, structOf, structAt, givenFields, FieldsAt}
+use Rattle.typing.specs.Entries.{opened, Entered, caseIs, caseAt, givenFields, FieldsAt}
 use Rattle.typing.specs.declared.entries.Entries.{Entries}
 use Rattle.typing.proofs.TableLaws.{tag-was, tag-out}
 use Rattle.typing.proofs.EnvLaws.{entry, after-is}
@@ -125,16 +125,17 @@ module _ {A : Type 0} {B : Type 0} {F : Reader A} {f : List A → B} {s : List �
           };
     }
 
--- whether a variant has fields
-module _ (s : List ℕ) (at : ℕ) {a : Tagged} (e : a ≡ taggedOf (readTag s at)) where
-  pub struct-case : {t : Tag} {c : Cursor} → a ≡ tagged.Case t c → eqb (t .case) 1 ≡ structAt s at
-  unfolding structOf
-  struct-case q = rw (tag-was _ e q)
+-- the case of a data enum
+module _ (s : List ℕ) (at k : ℕ) {a : Tagged} (e : a ≡ taggedOf (readTag s at)) where
+  pub case-was : {t : Tag} {c : Cursor} → a ≡ tagged.Case t c → eqb (t .case) k ≡ caseAt s at k
+  unfolding caseIs
+  case-was q = rw (tag-was _ e q)
 
-  pub struct-none : {f : Fault} {p : ℕ} → a ≡ tagged.Refused f p → false ≡ structAt s at
-  unfolding structOf
-  struct-none q = rw (tag-out _ e q)
+  pub case-none : {f : Fault} {p : ℕ} → a ≡ tagged.Refused f p → false ≡ caseAt s at k
+  unfolding caseIs
+  case-none q = rw (tag-out _ e q)
 
+-- a variant has fields where its case is 1
 abbrev pub hasFields : PatternVariant → Bool
 hasFields (pattern.unit v) = false
 hasFields (pattern.struct v xs) = true
@@ -143,16 +144,16 @@ abbrev pub declaresFields : ConstructorVariant → Bool
 declaresFields (decl.unit w) = false
 declaresFields (decl.struct w fs) = true
 
-pub pattern-fields : (s : List ℕ) (at : ℕ) (v : PatternVariant) (n : ℕ) → readPatternVariant s at ≡ ok v n → structAt s at ≡ hasFields v
-unfolding structOf
+pub pattern-fields : (s : List ℕ) (at : ℕ) (v : PatternVariant) (n : ℕ) → readPatternVariant s at ≡ ok v n → caseAt s at 1 ≡ hasFields v
+unfolding caseIs
 pattern-fields s at v n e = let u = pattern-variant-at s at v n e in rw (u .tagged) (go (u .fields))
   where
     go : {m c : ℕ} {v : PatternVariant} {n : ℕ} → PatternVariantAt s m c v n → eqb c 1 ≡ hasFields v
     go (unit-pattern q) = refl
     go (struct-pattern q r) = refl
 
-pub declared-fields : (s : List ℕ) (at : ℕ) (d : ConstructorVariant) (n : ℕ) → readConstructorVariant s at ≡ ok d n → structAt s at ≡ declaresFields d
-unfolding structOf
+pub declared-fields : (s : List ℕ) (at : ℕ) (d : ConstructorVariant) (n : ℕ) → readConstructorVariant s at ≡ ok d n → caseAt s at 1 ≡ declaresFields d
+unfolding caseIs
 declared-fields s at d n e = let u = constructor-variant-at s at d n e in rw (u .tagged) (go (u .fields))
   where
     go : {m c : ℕ} {d : ConstructorVariant} {n : ℕ} → ConstructorVariantAt s m c d n → eqb c 1 ≡ declaresFields d
@@ -160,7 +161,7 @@ declared-fields s at d n e = let u = constructor-variant-at s at d n e in rw (u 
     go (struct-variant q r) = refl
 
 -- the fields of a variant
-module _ (s : List ℕ) (at : ℕ) {b : Bool} (e : b ≡ structAt s at) where
+module _ (s : List ℕ) (at : ℕ) {b : Bool} (e : b ≡ caseAt s at 1) where
   pub fields-unit : b ≡ false → FieldsAt s at (record { many = 0; first = at })
   unfolding givenFields fieldsOf entries
   fields-unit q = record {

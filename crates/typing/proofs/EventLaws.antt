@@ -29,7 +29,7 @@ use Rattle.typing.specs.Means.{causeOf, withinOf, blameOf}
 use Rattle.typing.specs.Table.{afterHead, afterTag, Past}
 use Rattle.typing.specs.First.{FoundAt, groupName, FirstGroup, FirstVariant}
 use Rattle.typing.specs.Blames.{none-bound, Binds, Spares, JudgesPattern}
-use Rattle.typing.specs.Entries.{Entered, structAt, givenFields, FieldsAt}
+use Rattle.typing.specs.Entries.{Entered, caseAt, givenFields, FieldsAt}
 use Rattle.typing.specs.Fields.{JudgesFields}
 use Rattle.typing.specs.Event.{blamed, JudgesStruct, JudgesVariant, JudgesGroup}
 use Rattle.typing.specs.declared.cause.Cause.{Cause}
@@ -83,7 +83,7 @@ module _ (s : List ℕ) (at declared : ℕ) (table : List ℕ) (k : ℕ) {a b : 
 abbrev Each : (s : List ℕ) (at declared : ℕ) (table : List ℕ) (k : ℕ) (a b : Bool) (r : Bindings) (table′ : List ℕ) → Type 0
 Each s at declared table k a b r table′ = (v : PatternVariant) (n : ℕ) (d : ConstructorVariant) (m : ℕ) → readPatternVariant s at ≡ ok v n → readConstructorVariant s declared ≡ ok d m → b ≡ hasFields v → a ≡ declaresFields d → Binds s table k (judgeVariant d v) r table′
 
-module _ (s : List ℕ) (at declared : ℕ) (table : List ℕ) (k : ℕ) {a b : Bool} (h : a ≡ structAt s declared) (i : b ≡ structAt s at) where
+module _ (s : List ℕ) (at declared : ℕ) (table : List ℕ) (k : ℕ) {a b : Bool} (h : a ≡ caseAt s declared 1) (i : b ≡ caseAt s at 1) where
   by-fields : {r : Bindings} {table′ : List ℕ} → Each s at declared table k a b r table′ → JudgesVariant s at declared table k r table′
   by-fields f = record { of = λ v n d m g e. f v n d m g e (i ∙ pattern-fields s at v n g) (h ∙ declared-fields s declared d m e) }
 

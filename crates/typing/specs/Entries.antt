@@ -25,13 +25,13 @@ pub record Entered {A : Type 0} (F : Reader A) (s : List ℕ) (many first : ℕ)
   pub end : ℕ
   pub reads : entries (length xs) F s first ≡ ok xs end
 
--- whether a variant has fields: its case is 1
-unfoldable pub structOf : Read Tag → Bool
-structOf (ok t n) = eqb (t .case) 1
-structOf (refused f p) = false
+-- whether a data enum has the case
+unfoldable pub caseIs : ℕ → Read Tag → Bool
+caseIs c (ok t n) = eqb (t .case) c
+caseIs c (refused f p) = false
 
-abbrev pub structAt : List ℕ → ℕ → Bool
-structAt s at = structOf (readTag s at)
+abbrev pub caseAt : List ℕ → ℕ → ℕ → Bool
+caseAt s at c = caseIs c (readTag s at)
 
 -- the fields of a pattern's variant, and of a declared one
 unfoldable pub givenFields : PatternVariant → List PatternField

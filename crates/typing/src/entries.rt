@@ -1,4 +1,4 @@
-// Lists that are opened.
+// Lists and data enums that are opened.
 use crate::fill::after_tag;
 use crate::table::after;
 use reading::Answer;
@@ -8,7 +8,7 @@ ghost use Prim.Native.Nat.{_≤_};
 ghost use mathlib.Core.Path.{_≡_};
 ghost use Rattle.reading.specs.Limits.{maxList};
 ghost use Rattle.reading.specs.Item.{readCount};
-ghost use Rattle.typing.specs.Entries.{opened, structAt, FieldsAt};
+ghost use Rattle.typing.specs.Entries.{opened, caseAt, FieldsAt};
 
 // How many entries a list has, and where the first of them stands.
 pub struct Entries {
@@ -32,24 +32,24 @@ pub(crate) fn entries_at(doc: &[u8], at: usize) -> Entries
     }
 }
 
-// Whether the variant at a place has fields.
-pub(crate) fn is_struct(doc: &[u8], at: usize) -> bool
-    ensures { λ r. ⌜ r ≡ structAt (now (doc .entry)) at ⌝ }
+// Whether the data enum at a place has the case.
+pub(crate) fn has_case(doc: &[u8], at: usize, case: u64) -> bool
+    ensures { λ r. ⌜ r ≡ caseAt (now (doc .entry)) at case ⌝ }
 {
     let c = Cursor { at };
     let t = c.tag(doc);
     match t {
-        Tagged::Case(tag, _) => tag.case == 1,
+        Tagged::Case(tag, _) => tag.case == case,
         Tagged::Refused(_, _) => false,
     }
 }
 
-// The fields of the variant at a place, a pattern's or a declared one; a unit has none.
+// The fields of the variant at a place, a pattern's or a declared one: case 1 has fields, a unit has none.
 pub(crate) fn fields_at(doc: &[u8], at: usize) -> Entries
     ensures { λ r. ⌜ FieldsAt (now (doc .entry)) at r ⌝ }
     ensures { λ r. ⌜ r .many ≤ 255 ⌝ }
 {
-    if is_struct(doc, at) {
+    if has_case(doc, at, 1) {
         let name = after_tag(doc, at);
         return entries_at(doc, after(doc, name));
     }

@@ -5,7 +5,7 @@ use crate::cause::Blame;
 use crate::cause::Cause;
 use crate::cause::Within;
 use crate::entries::fields_at;
-use crate::entries::is_struct;
+use crate::entries::has_case;
 use crate::field::judge_fields;
 use crate::fill::after_head;
 use crate::fill::after_tag;
@@ -49,8 +49,8 @@ fn judge_variant(doc: &[u8], at: usize, declared: usize, table: &mut [usize], k:
     ensures { λ r. ⌜ JudgesVariant (now (doc .entry)) at declared (now (table .entry)) k r (now (table .exit)) ⌝ }
     ensures { λ r. ⌜ Spares (now (table .entry)) k r (now (table .exit)) ⌝ }
 {
-    let due = is_struct(doc, declared);
-    if is_struct(doc, at) {
+    let due = has_case(doc, declared, 1);
+    if has_case(doc, at, 1) {
         if due {
             return judge_struct(doc, at, declared, table, k);
         }
