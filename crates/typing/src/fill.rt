@@ -1,4 +1,5 @@
 // Filling a table from a list of records: each one's name and what follows the name.
+use crate::entries::entries_at;
 use crate::table::after;
 use reading::Answer;
 use reading::Cursor;
@@ -41,14 +42,10 @@ pub fn fill_table(doc: &[u8], at: usize, table: &mut [usize]) -> usize
     ensures { λ r. ⌜ Filled (now (table .entry)) (pairsAt (now (doc .entry)) at) r (now (table .exit)) ⌝ }
     ensures { λ r. ⌜ r ≤ 510 ⌝ }
 {
-    let c = Cursor { at };
-    let r = c.count(doc, 255);
-    let Answer::Got(count, first) = r else {
-        return 0;
-    };
-    let mut k = first.at;
+    let e = entries_at(doc, at);
+    let mut k = e.first;
     let mut j: usize = 0;
-    let mut left = count;
+    let mut left = e.many;
     while 0 < left {
         let name = after_head(doc, k);
         store(table, j, name);
