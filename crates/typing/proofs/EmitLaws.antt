@@ -53,8 +53,8 @@ use Rattle.typing.specs.declared.table.Found.{Found}
 use Rattle.typing.specs.declared.table.Found.the-variants.{At, Nothing}
 use Rattle.typing.proofs.EnvLaws.{entry, after-is, fields-head}
 use Rattle.typing.proofs.EntryLaws.{entered, Next, none-left, next, entered-at}
-use Rattle.typing.proofs.PartLaws.{option-null, option-there, field-text, field-type, group-variants, variant-text}
-use Rattle.typing.proofs.FirstLaws.{found-no, found-yes}
+use Rattle.typing.proofs.PartLaws.{option-null, option-there, field-text, field-type, group-variants}
+use Rattle.typing.proofs.FirstLaws.{found-no, found-yes, variant-text}
 
 -- an argument with its field
 module _ (env : Env) (s : List ℕ) (at field : ℕ) {name ty : ℕ} {f : Fit} (h : name ≡ afterHead s field) (o : Past s (afterHead s field) ty) (g : AcceptsArg env s at ty f) where
@@ -141,7 +141,7 @@ module _ (s : List ℕ) (at : ℕ) {e : Entries} (h : e ≡ opened (readCount ma
     where
       go : (vs : List ConstructorVariant) → Entered readConstructorVariant s (e .many) (e .first) vs → nameFound s (At k) ≡ variantName none vs
       go [] l = absurd (omega (arith, l .count))
-      go (v ∷ []) l = let u = entry readConstructorVariant s (e .first) v [] (l .end) (l .reads) in ap some (variant-text s (e .first) v (u .end) j (u .here))
+      go (v ∷ []) l = let u = entry readConstructorVariant s (e .first) v [] (l .end) (l .reads) in ap some (ap (textAt s) j ∙ variant-text s (e .first) v (u .end) (u .here))
       go (v ∷ (w ∷ ws)) l = absurd (omega (arith, l .count))
 
 -- the variant's name

@@ -10,12 +10,15 @@ use Rattle.reading.specs.Item.{readCount}
 use Rattle.reading.specs.Text.{Name}
 use Rattle.reading.specs.Decl.{EnumDecl, ConstructorVariant, ConstructorGroup, readEnumDecl, readConstructorVariant, readConstructorGroup}
 use Rattle.reading.specs.Skip.{textAt}
+use Rattle.reading.specs.Views.{ConstructorVariantAt, unit-variant, struct-variant}
 use Rattle.reading.proofs.Rules.{no}
 use Rattle.reading.proofs.DeclLaws.{enum-decl-laws, constructor-variant-laws, constructor-group-laws}
+use Rattle.reading.proofs.CaseViews.{constructor-variant-at}
+use Rattle.reading.proofs.Walks.{name-text}
 use Rattle.typing.specs.Causes.{firstOf}
 use Rattle.typing.specs.Names.{eqName, called, firstCalled}
 use Rattle.typing.specs.Patterns.{declaredName}
-use Rattle.typing.specs.Table.{afterHead, afterTag, Past}
+use Rattle.typing.specs.Table.{placeAfter, afterHead, afterTag, Past}
 use Rattle.typing.specs.First.{FoundAt, found-here, found-nothing, groupName, enumName, First, FirstGroup, FirstEnum, FirstVariant}
 use Rattle.typing.specs.Entries.{opened}
 use Rattle.typing.specs.declared.entries.Entries.{Entries}
@@ -24,7 +27,7 @@ use Rattle.typing.specs.declared.table.Found.the-variants.{At, Nothing}
 use Rattle.typing.proofs.NameLaws.{eqName-eq}
 use Rattle.typing.proofs.EnvLaws.{after-is}
 use Rattle.typing.proofs.EntryLaws.{entered, Scanning, scan-done, scan-turn, scan-next}
-use Rattle.typing.proofs.PartLaws.{group-text, enum-text, variant-text}
+use Rattle.typing.proofs.PartLaws.{group-text, enum-text}
 
 -- what was found, from what the code learnt of it
 module _ {A : Type 0} {F : Reader A} {s : List ℕ} where
@@ -69,6 +72,15 @@ module _ {A : Type 0} (F : Reader A) (name : A → Name) (s : List ℕ) (at : �
     unfolding firstCalled called pick firstOf
     miss q p = scan-next g z p λ x n i rest. rw (sym (t x n i) ∙ q)
 
+-- a declared variant: the name stands after the case number
+pub variant-text : (s : List ℕ) (k : ℕ) (x : ConstructorVariant) (n : ℕ) → readConstructorVariant s k ≡ ok x n → textAt s (afterTag s k) ≡ declaredName x
+unfolding placeAfter declaredName
+variant-text s k x n e = let u = constructor-variant-at s k x n e in rw (u .tagged) (go (u .fields))
+  where
+    go : {m c : ℕ} {x : ConstructorVariant} {n : ℕ} → ConstructorVariantAt s m c x n → textAt s m ≡ declaredName x
+    go {m} (unit-variant q) = name-text s m _ _ q
+    go {m} (struct-variant q r) = name-text s m _ _ q
+
 -- by the place of the name in each kind of entry
 module _ (s : List ℕ) (at : ℕ) (w : Name) {e : Entries} (o : e ≡ opened (readCount maxList s at)) (left k : ℕ) (z : 0 < left) {key : ℕ} {text : Name} {b : Bool} (t : text ≡ textAt s key) (f : b ≡ eqName text w) where
   -- records
@@ -96,7 +108,7 @@ module _ (s : List ℕ) (at : ℕ) (w : Name) {e : Entries} (o : e ≡ opened (r
   -- variants
   module _ (i : key ≡ afterTag s k) (g : Seeking readConstructorVariant declaredName s w (e .many) (e .first) left k) where
     variant-called : (x : ConstructorVariant) (n : ℕ) → readConstructorVariant s k ≡ ok x n → b ≡ eqName (declaredName x) w
-    variant-called x n q = f ∙ ap (λ (y : Name). eqName y w) (t ∙ variant-text s k x n i q)
+    variant-called x n q = f ∙ ap (λ (y : Name). eqName y w) (t ∙ ap (textAt s) i ∙ variant-text s k x n q)
 
     pub variant-hit : b ≡ true → FirstVariant s at w (At k)
     variant-hit = hit readConstructorVariant declaredName s at w o left k g z variant-called

@@ -11,18 +11,18 @@ use Rattle.reading.specs.Read.{Reader, ok}
 use Rattle.reading.specs.Limits.{maxList}
 use Rattle.reading.specs.Combine.{listOf, optional}
 use Rattle.reading.specs.Text.{readName}
-use Rattle.reading.specs.Decl.{FieldDecl, EnumDecl, ConstructorVariant, ConstructorGroup, readTy, readFieldDecl, readEnumDecl, readConstructorVariant, readConstructorGroup}
+use Rattle.reading.specs.Decl.{FieldDecl, EnumDecl, ConstructorGroup, readTy, readFieldDecl, readEnumDecl, readConstructorVariant, readConstructorGroup}
 use Rattle.reading.specs.Pattern.{PatternField, PatternVariant, Pattern, readPatternExpr, readPatternField, readPatternVariant, readPattern}
 use Rattle.reading.specs.Skip.{textAt}
-use Rattle.reading.specs.Views.{OptionAt, absent, present, ConstructorVariantAt, unit-variant, struct-variant, PatternVariantAt, unit-pattern, struct-pattern}
+use Rattle.reading.specs.Views.{OptionAt, absent, present, PatternVariantAt, unit-pattern, struct-pattern}
 use Rattle.reading.proofs.Rules.{no}
 use Rattle.reading.proofs.OptionLaws.{option-laws}
 use Rattle.reading.proofs.ExprLaws.{name-laws, name-solid}
 use Rattle.reading.proofs.Views.{field-decl-at, enum-decl-at, constructor-group-at, pattern-field-at, pattern-at}
-use Rattle.reading.proofs.CaseViews.{constructor-variant-at, pattern-variant-at}
+use Rattle.reading.proofs.CaseViews.{pattern-variant-at}
 use Rattle.reading.proofs.ListViews.{option-at}
 use Rattle.reading.proofs.Walks.{name-text}
-use Rattle.typing.specs.Patterns.{declaredName, patternVariantName}
+use Rattle.typing.specs.Patterns.{patternVariantName}
 use Rattle.typing.specs.Table.{placeAfter, afterItem, afterHead, afterTag, Past}
 use Rattle.typing.specs.First.{groupName, enumName}
 use Rattle.typing.proofs.EnvLaws.{after-is, fields-head}
@@ -97,15 +97,7 @@ module _ (s : List ℕ) (at : ℕ) where
         let i : p ≡ v .variant = o .is ∙ ap (afterItem s) (h ∙ fields-head 2 s at tt (v .group) (v .opens)) ∙ after-is name-laws s (o .each) (v .group) (x .group) (v .variant) (v .group-is) in
         ap (optional readPatternVariant s) i ∙ v .variant-is
 
--- variants: the name stands after the case number
-pub variant-text : (s : List ℕ) (at : ℕ) (x : ConstructorVariant) (n : ℕ) {k : ℕ} → k ≡ afterTag s at → readConstructorVariant s at ≡ ok x n → textAt s k ≡ declaredName x
-unfolding placeAfter declaredName
-variant-text s at x n h e = let u = constructor-variant-at s at x n e in rw (h, u .tagged) (go (u .fields))
-  where
-    go : {m c : ℕ} {x : ConstructorVariant} {n : ℕ} → ConstructorVariantAt s m c x n → textAt s m ≡ declaredName x
-    go {m} (unit-variant q) = name-text s m _ _ q
-    go {m} (struct-variant q r) = name-text s m _ _ q
-
+-- a pattern's variant: the name stands after the case number
 pub pattern-text : (s : List ℕ) (at : ℕ) (x : PatternVariant) (n : ℕ) {k : ℕ} → k ≡ afterTag s at → readPatternVariant s at ≡ ok x n → textAt s k ≡ patternVariantName x
 unfolding placeAfter patternVariantName
 pattern-text s at x n h e = let u = pattern-variant-at s at x n e in rw (h, u .tagged) (go (u .fields))
