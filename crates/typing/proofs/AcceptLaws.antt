@@ -3,7 +3,7 @@ use Prim.Native.Nat.{ℕ, _<_, _≤_}
 use mathlib.Core.Path.{_≡_, refl, sym, ap, _∙_}
 use mathlib.Core.Bool.{Bool, true, false}
 use mathlib.Core.List.{List, [], _∷_}
-use mathlib.Core.Option.{Option, none, some}
+use mathlib.Core.Option.{none, some}
 use native.Mathlib.Omega.{arith}
 use lib.ListN.{length}
 use Rattle.reading.specs.Read.{ok, pick}
@@ -14,7 +14,7 @@ use Rattle.reading.specs.Expr.{readPath}
 use Rattle.reading.specs.Combine.{entries}
 use Rattle.reading.specs.Decl.{Ty, readTy}
 use Rattle.reading.specs.Decl as decl
-use Rattle.reading.specs.Pattern.{PatternExpr, readPatternExpr}
+use Rattle.reading.specs.Pattern.{PatternExpr}
 use Rattle.reading.specs.Pattern as pattern
 use Rattle.reading.specs.Skip.{textAt}
 use Rattle.reading.specs.Link.{answer, taggedOf}
@@ -31,7 +31,7 @@ use Rattle.reading.proofs.Answers.{num, out}
 use Rattle.reading.proofs.CaseViews.{ty-at, pattern-expr-at, by-tag}
 use Rattle.reading.proofs.ListViews.{list-at}
 use Rattle.reading.proofs.Walks.{name-text}
-use Rattle.typing.specs.Types.{ExprType, typeToExprType}
+use Rattle.typing.specs.Types.{typeToExprType}
 use Rattle.typing.specs.Causes.{variantPath, variantOnNonEnum}
 use Rattle.typing.specs.Names.{eqName}
 use Rattle.typing.specs.Patterns.{fits, variantOf, patternExprCompatible}
@@ -40,7 +40,7 @@ use Rattle.typing.specs.Table.{exprTypeAt}
 use Rattle.typing.specs.Accepts.{intOn, boolOn, enumName, nameFound, EnumOf, VariantOf, AcceptsInt, AcceptsPath, Accepts}
 use Rattle.typing.specs.declared.ty.Ty.{Ty as CodeTy}
 use Rattle.typing.specs.declared.ty.Ty.the-variants as ty
-use Rattle.typing.specs.declared.cause.Cause.the-variants.{BooleanLiteral, IntegerOnBool, IntegerOnEnum, DoesNotFit, VariantOnNonEnum, VariantPath}
+use Rattle.typing.specs.declared.cause.Cause.the-variants.{IntegerOnBool, IntegerOnEnum, DoesNotFit, VariantOnNonEnum, VariantPath}
 use Rattle.typing.specs.declared.rules.Fit.{Fit}
 use Rattle.typing.specs.declared.rules.Fit.the-variants.{Fine, Unfit}
 use Rattle.typing.specs.declared.table.Found.{Found}
@@ -271,21 +271,3 @@ module _ (s : List ℕ) (at ty : ℕ) {a : Tagged} (e : a ≡ taggedOf (readTag 
         go (int-pattern u) i y = absurd (omega arith)
         go (bool-pattern u) i y = absurd (omega arith)
         go (path-pattern u) i y = absurd (omega arith)
-
--- a boolean literal
-module _ (s : List ℕ) (τ : CodeTy) where
-  pub bool-bit : {w : ℕ} → τ ≡ ty.Bit w → unfitOf s (Unfit BooleanLiteral) ≡ boolOn (tyOf s τ)
-  unfolding unfitOf causeOf boolOn tyOf
-  bool-bit k = rw k
-
-  pub bool-literal : τ ≡ ty.IntLit → unfitOf s (Unfit BooleanLiteral) ≡ boolOn (tyOf s τ)
-  unfolding unfitOf causeOf boolOn tyOf
-  bool-literal k = rw k
-
-  pub bool-state : τ ≡ ty.State → unfitOf s (Unfit BooleanLiteral) ≡ boolOn (tyOf s τ)
-  unfolding unfitOf causeOf boolOn tyOf
-  bool-state k = rw k
-
-  pub bool-enum : {p : ℕ} → τ ≡ ty.Enum p → unfitOf s (Unfit BooleanLiteral) ≡ boolOn (tyOf s τ)
-  unfolding unfitOf causeOf boolOn tyOf
-  bool-enum k = rw k

@@ -1,13 +1,12 @@
 -- What each step of the judging of an argument gives, for whatever reads there.
 use Prim.Native.Nat.{ℕ}
-use mathlib.Core.Path.{_≡_, sym, ap, _∙_}
+use mathlib.Core.Path.{_≡_, ap, _∙_}
 use mathlib.Core.List.{List}
 use Rattle.reading.specs.Limits.{maxDepth}
-use Rattle.typing.specs.Types.{ExprType}
 use Rattle.typing.specs.Rules.{compatibleWith}
 use Rattle.typing.specs.Env.{Env}
 use Rattle.typing.specs.Outputs.{argCause}
-use Rattle.typing.specs.Means.{tyOf, causeOf, unfitOf}
+use Rattle.typing.specs.Means.{tyOf, unfitOf}
 use Rattle.typing.specs.Table.{exprTypeAt}
 use Rattle.typing.specs.Typed.{Types}
 use Rattle.typing.specs.Arguments.{AcceptsArg}

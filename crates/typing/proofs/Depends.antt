@@ -3,7 +3,7 @@ use Prim.Native.Nat.{ℕ}
 use mathlib.Core.Path.{_≡_, refl, sym, ap, _∙_}
 use mathlib.Core.List.{List, [], _∷_}
 use mathlib.Core.Option.{Option, none, some}
-use Rattle.reading.specs.Read.{ok, pick}
+use Rattle.reading.specs.Read.{ok}
 use Rattle.reading.specs.Text.{Name}
 use Rattle.reading.specs.Expr.{Expr, readExpr}
 use Rattle.reading.specs.Expr as expr
@@ -14,10 +14,8 @@ use Rattle.reading.proofs.ExprLaws.{expr-laws}
 use Rattle.reading.proofs.ListViews.{spanned}
 use Rattle.reading.proofs.Theorems.{one-encoding}
 use Rattle.typing.specs.Types.{ExprType}
-use Rattle.typing.specs.Causes.{andThen}
 use Rattle.typing.specs.Names.{stateEnum}
-use Rattle.typing.specs.Rules.{unaryType, binOp, binaryType}
-use Rattle.typing.specs.Env.{Env, named, Agree}
+use Rattle.typing.specs.Env.{Env, Agree}
 use Rattle.typing.specs.Typing.{resolveState, orState, resolveName, resolveVariant, resolvePath, typeExpr}
 
 module _ {a b : Env} (g : Agree a b) where

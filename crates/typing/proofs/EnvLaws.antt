@@ -1,6 +1,6 @@
 -- The tables of a module's variables and enums mean what its declarations mean.
 use Prim.Native.Nat.{ℕ, zero, suc, _+_, _*_, _/_}
-use mathlib.Core.Path.{_≡_, refl, sym, ap, subst, _∙_}
+use mathlib.Core.Path.{_≡_, refl, sym, ap, _∙_}
 use mathlib.Core.Bool.{Bool, true, false}
 use mathlib.Core.List.{List, [], _∷_, _++_}
 use mathlib.Core.Option.{Option, none, some}
@@ -8,16 +8,15 @@ use native.Mathlib.Omega.{arith}
 use native.Mathlib.Nat.{zero-add, suc-add}
 use lib.ListN.{length, getD, length-append}
 use lib.Dec.{eqb}
-use Rattle.reading.specs.Read.{Read, Reader, ok, pick}
+use Rattle.reading.specs.Read.{Reader, ok, pick}
 use Rattle.reading.specs.Limits.{maxU32, maxList}
-use Rattle.reading.specs.Item.{readKind, readNumber, readCount, readFields}
+use Rattle.reading.specs.Item.{readNumber, readFields}
 use Rattle.reading.specs.Text.{Name, readName}
 use Rattle.reading.specs.Combine.{entries, listOf}
 use Rattle.reading.specs.Decl.{Ty, EnumDecl, VarDecl, readTy, readNames, readEnumDecl, readVarDecl}
 use Rattle.reading.specs.Module.{Module}
 use Rattle.reading.specs.Skip.{textAt}
-use Rattle.reading.specs.Views.{EnumAt, TyAt, bool-ty, bit-ty, enum-ty}
-use Rattle.reading.proofs.Rules.{no, by, pick-true, pick-false}
+use Rattle.reading.specs.Views.{TyAt, bool-ty, bit-ty, enum-ty}
 use Rattle.reading.proofs.Gives.{Gives, gives-ok, gives-refused, gives-pick, gives-bind, gives-map}
 use Rattle.reading.proofs.HeadSound.{Bytes}
 use Rattle.reading.proofs.Formats.{Laws}
@@ -30,7 +29,7 @@ use Rattle.reading.proofs.Walks.{passed, name-text}
 use Rattle.typing.specs.Types.{ExprType, bool, enum, typeToExprType}
 use Rattle.typing.specs.Causes.{firstOf}
 use Rattle.typing.specs.Names.{eqName, member, called, lastCalled}
-use Rattle.typing.specs.Env.{Env, Binding, named, bindingType, varType, given, enumHas, forModule, withBindings, Agree}
+use Rattle.typing.specs.Env.{Env, Binding, bindingType, varType, given, enumHas, forModule, withBindings, Agree}
 use Rattle.typing.specs.Table.{placeAfter, afterItem, afterHead, pairsFrom, pairsOf, pairsAt, findFirst, findIn, widthType, caseType, exprTypeAt, memberFrom, memberOf, memberAt, typeFound, variantFound, envAt}
 use Rattle.typing.specs.Blames.{Bound, none-bound, more-bound}
 use Rattle.typing.proofs.TableLaws.{pairs-length}

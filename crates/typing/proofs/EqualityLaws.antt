@@ -16,7 +16,7 @@ use Rattle.reading.specs.Expr as expr
 use Rattle.reading.specs.Combine.{entries}
 use Rattle.reading.specs.Skip.{textAt}
 use Rattle.reading.specs.Link.{answer, taggedOf}
-use Rattle.reading.specs.Views.{ExprAt, int-expr, bool-expr, path-expr, unary-expr, binary-expr}
+use Rattle.reading.specs.Views.{EnumAt, ExprAt, int-expr, bool-expr, path-expr, unary-expr, binary-expr}
 use Rattle.reading.specs.declared.cursor.Cursor.{Cursor}
 use Rattle.reading.specs.declared.fault.Fault.{Fault}
 use Rattle.reading.specs.declared.item.Answer.{Answer}
@@ -26,7 +26,7 @@ use Rattle.reading.specs.declared.item.Tagged.{Tagged}
 use Rattle.reading.specs.declared.item.Tagged.the-variants as tagged
 use Rattle.reading.proofs.Rules.{no}
 use Rattle.reading.proofs.Answers.{num, out}
-use Rattle.reading.proofs.CaseViews.{expr-at}
+use Rattle.reading.proofs.CaseViews.{expr-at, by-tag}
 use Rattle.reading.proofs.ListViews.{list-at}
 use Rattle.reading.proofs.Walks.{name-text}
 use Rattle.typing.specs.Causes.{firstOf}
@@ -41,9 +41,8 @@ use Rattle.typing.specs.declared.equality.Conjunct.{Conjunct}
 use Rattle.typing.specs.declared.equality.Conjunct.the-variants.{And, One}
 use Rattle.typing.specs.declared.side.Side.{Side}
 use Rattle.typing.specs.declared.side.Side.the-variants as side
-use Rattle.typing.proofs.TableLaws.{tag-out}
+use Rattle.typing.proofs.TableLaws.{tag-was, tag-out}
 use Rattle.typing.proofs.EnvLaws.{entry}
-use Rattle.typing.proofs.TypeLaws.{fields-are}
 use Rattle.typing.proofs.ClashLaws.{called-append, equalities-append}
 
 -- an expression that reads has a level, and a case
@@ -52,16 +51,19 @@ unfolding readExpr
 deep-enough zero s at x n e z = no (cc)
 deep-enough (suc d) s at x n e z = omega arith
 
+pub stands : (d : ℕ) (s : List ℕ) (at : ℕ) (x : Expr) (n : ℕ) → readExpr d s at ≡ ok x n → EnumAt (ExprAt (d - 1) s) s at x n
+stands d s at x n g =
+    let z = deep-enough d s at x n g in
+    let k : d ≡ suc (d - 1) = omega arith in
+    expr-at (d - 1) s at x n (ap (λ (i : ℕ). readExpr i s at) (sym k) ∙ g)
+
 module _ (d : ℕ) (s : List ℕ) (at : ℕ) {a : Tagged} (e : a ≡ taggedOf (readTag s at)) (x : Expr) (n : ℕ) (g : readExpr d s at ≡ ok x n) where
   pub case-fields : {t : Tag} {c : Cursor} → a ≡ tagged.Case t c → ExprAt (d - 1) s (c .at) (t .case) x n
-  case-fields q = fields-are d s at e (deep-enough d s at x n g) q x n g
+  case-fields q = by-tag (stands d s at x n g) (tag-was _ e q)
 
   pub no-case : {A : Type 0} {f : Fault} {p : ℕ} → a ≡ tagged.Refused f p → A
   no-case q =
-      let z = deep-enough d s at x n g in
-      let k : d ≡ suc (d - 1) = omega arith in
-      let v = expr-at (d - 1) s at x n (ap (λ (i : ℕ). readExpr i s at) (sym k) ∙ g) in
-      let u = v .tagged in
+      let u = stands d s at x n g .tagged in
       let w = tag-out _ e q in
       no (cc)
 

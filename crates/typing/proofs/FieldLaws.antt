@@ -1,6 +1,6 @@
 -- What each step of the judging of one field of a pattern gives, for whatever reads there.
 use Prim.Native.Nat.{ℕ, suc, _+_, _-_, _<_, _≤_}
-use mathlib.Core.Path.{_≡_, refl, sym, ap, subst, _∙_}
+use mathlib.Core.Path.{_≡_, refl, sym, ap, _∙_}
 use mathlib.Core.Bool.{Bool, true, false}
 use mathlib.Core.List.{List, [], _∷_}
 use mathlib.Core.Option.{Option, none, some}
@@ -11,25 +11,12 @@ use lib.Seq.{set-out, take-set-le}
 use lib.Dec.{eqb}
 use borrow.Author.Tests.{eq-eqb, ne-eqb}
 use Rattle.reading.specs.Read.{ok, pick}
-use Rattle.reading.specs.Limits.{maxList}
-use Rattle.reading.specs.Item.{readCount}
 use Rattle.reading.specs.Text.{Name, readName}
-use Rattle.reading.specs.Decl.{FieldDecl, readTy, readFieldDecl}
-use Rattle.reading.specs.Pattern.{PatternField, readPatternExpr, readPatternField}
+use Rattle.reading.specs.Decl.{FieldDecl, readFieldDecl}
+use Rattle.reading.specs.Pattern.{PatternField, readPatternField}
 use Rattle.reading.specs.Skip.{textAt}
-use Rattle.reading.specs.Link.{answer}
 use Rattle.reading.specs.Views.{OptionAt, absent, present}
-use Rattle.reading.specs.declared.cursor.Cursor.{Cursor}
-use Rattle.reading.specs.declared.fault.Fault.{Fault}
-use Rattle.reading.specs.declared.item.Answer.{Answer}
-use Rattle.reading.specs.declared.item.Answer.the-variants.{Got, Refused}
 use Rattle.reading.proofs.Rules.{no, pick-true, pick-false}
-use Rattle.reading.proofs.Answers.{num, out}
-use Rattle.reading.proofs.ItemLaws.{count-kind}
-use Rattle.reading.proofs.OptionLaws.{option-laws}
-use Rattle.reading.proofs.ExprLaws.{name-laws, name-solid}
-use Rattle.reading.proofs.Views.{field-decl-at, pattern-field-at}
-use Rattle.reading.proofs.ListViews.{option-at}
 use Rattle.reading.proofs.Walks.{name-text}
 use Rattle.typing.specs.Types.{typeToExprType}
 use Rattle.typing.specs.Causes as causes
@@ -40,7 +27,7 @@ use Rattle.typing.specs.Means.{causeOf, unfitOf, withinOf, blameOf}
 use Rattle.typing.specs.Table.{afterItem, afterHead, Past, exprTypeAt}
 use Rattle.typing.specs.Accepts.{Accepts}
 use Rattle.typing.specs.Blames.{none-bound, more-bound, Binds}
-use Rattle.typing.specs.Fields.{fieldNamed, namedFrom, Passed, unnamed, again, fresh, nameIn, namedOf, NamesField, FitsField, noMore, JudgesField, countOf, Counted}
+use Rattle.typing.specs.Fields.{fieldNamed, namedFrom, Passed, unnamed, again, fresh, nameIn, namedOf, NamesField, FitsField, noMore, JudgesField}
 use Rattle.typing.specs.declared.cause.Cause.{Cause}
 use Rattle.typing.specs.declared.cause.Cause.the-variants.{DuplicateBinding}
 use Rattle.typing.specs.declared.cause.Within.the-variants.{Alone, Field}
@@ -50,11 +37,8 @@ use Rattle.typing.specs.declared.rules.Fit.{Fit}
 use Rattle.typing.specs.declared.rules.Fit.the-variants.{Fine, Unfit}
 use Rattle.typing.specs.declared.field.Naming.{Naming}
 use Rattle.typing.specs.declared.field.Naming.the-variants.{Unnamed, Again, Fresh}
-use Rattle.typing.proofs.EnvLaws.{after-is, fields-head, type-is}
-
--- the place after the item at a place that is known
-pub past-at : {s : List ℕ} {k k′ r : ℕ} → k ≡ k′ → Past s k r → Past s k′ r
-past-at {s} {k} {k′} {r} h p = subst (λ (z : ℕ). Past s z r) h p
+use Rattle.typing.proofs.EnvLaws.{type-is}
+use Rattle.typing.proofs.PartLaws.{option-null, option-there, name-stands, pattern-stands, field-text, field-type}
 
 -- whether a field has the name
 module _ (s : List ℕ) (at : ℕ) (w : Name) {k : ℕ} {b : Bool} (h : k ≡ afterHead s at) (e : b ≡ eqb (getD s k 0) 246) where
@@ -88,13 +72,6 @@ module _ (s : List ℕ) (at fields : ℕ) (w : Name) (k left : ℕ) (r : namedFr
     named-miss q g = rw (first-named, q, g)
 
 -- a field's name, where it stands
-module _ (s : List ℕ) (at : ℕ) (x : PatternField) (n : ℕ) (g : readPatternField s at ≡ ok x n) where
-  name-stands : {k : ℕ} → k ≡ afterHead s at → (m : ℕ) × OptionAt readName s k (x .name) m
-  name-stands {k} h =
-      let v = pattern-field-at s at x n g in
-      let i : k ≡ v .name = h ∙ fields-head 2 s at tt (v .name) (v .opens) in
-      (v .pattern, subst (λ (z : ℕ). OptionAt readName s z (x .name) (v .pattern)) (sym i) (option-at readName s (v .name) (x .name) (v .pattern) (v .name-is)))
-
 abbrev pub nameIs : Option Name → Name → Bool
 nameIs none w = false
 nameIs (some n) w = eqName n w
@@ -110,19 +87,15 @@ field-named-is s at w x n g = go (name-stands s at x n g refl .1)
 module _ (s : List ℕ) (at first i : ℕ) {k : ℕ} {b : Bool} (h : k ≡ afterHead s at) (e : b ≡ eqb (getD s k 0) 246) where
   pub name-absent : b ≡ true → NamesField s at first i Unnamed
   unfolding namedOf nameIn
-  name-absent q = record { of = λ x n seen g p. go seen (name-stands s at x n g h .1) }
-    where
-      go : (seen : List Name) {o : Option Name} {m : ℕ} → OptionAt readName s k o m → unnamed ≡ nameIn seen o
-      go seen (absent u v) = refl
-      go seen (present u v) = no (let i = e ∙ ne-eqb _ _ u in cc)
+  name-absent q = record { of = λ x n seen g p. rw (option-null e q (name-stands s at x n g h .1)) }
 
   module _ (q : b ≡ false) {t : Name} {r : Bool} (f : t ≡ textAt s k) (j : r ≡ namedFrom i s first t) where
     name-there : (seen : List Name) → Passed s first i seen → {o : Option Name} {m : ℕ} → OptionAt readName s k o m → pick r (again (textAt s k)) (fresh (textAt s k)) ≡ nameIn seen o
     unfolding nameIn
-    name-there seen p (absent u v) = no (let i = e ∙ eq-eqb _ _ u in cc)
-    name-there seen p (present {x = y} {n = m} u v) =
-        let w : t ≡ y = f ∙ name-text s k y m v in
-        rw (name-text s k y m v, j, w, p .are y)
+    name-there seen p {m = m} o =
+        let y = option-there e q o in
+        let z = name-text s k (y .0) m (y .2) in
+        rw (y .1, z, j, f ∙ z, p .are (y .0))
 
     pub name-again : r ≡ true → NamesField s at first i (Again k)
     unfolding namedOf
@@ -132,32 +105,11 @@ module _ (s : List ℕ) (at first i : ℕ) {k : ℕ} {b : Bool} (h : k ≡ after
     unfolding namedOf
     name-fresh z = record { of = λ x n seen g p. rw (z, pick-false) at (name-there seen p (name-stands s at x n g h .1)) }
 
--- the parts of a field and of a declared field
-module _ (s : List ℕ) where
-  pattern-stands : (at : ℕ) {p : ℕ} → Past s (afterHead s at) p → (x : PatternField) (n : ℕ) → readPatternField s at ≡ ok x n → (m : ℕ) × (readPatternExpr s p ≡ ok (x .pattern) m)
-  pattern-stands at {p} o x n g =
-      let v = pattern-field-at s at x n g in
-      let i : p ≡ v .pattern = o .is ∙ ap (afterItem s) (fields-head 2 s at tt (v .name) (v .opens)) ∙ after-is (option-laws name-laws name-solid) s (o .each) (v .name) (x .name) (v .pattern) (v .name-is) in
-      (n, ap (readPatternExpr s) i ∙ v .pattern-is)
-
-  type-stands : (at : ℕ) {p : ℕ} → Past s (afterHead s at) p → (f : FieldDecl) (n : ℕ) → readFieldDecl s at ≡ ok f n → (m : ℕ) × (readTy s p ≡ ok (f .ty) m)
-  type-stands at {p} o f n g =
-      let v = field-decl-at s at f n g in
-      let i : p ≡ v .ty = o .is ∙ ap (afterItem s) (fields-head 2 s at tt (v .name) (v .opens)) ∙ after-is name-laws s (o .each) (v .name) (f .name) (v .ty) (v .name-is) in
-      (n, ap (readTy s) i ∙ v .ty-is)
-
-  declared-text : (at : ℕ) {k : ℕ} → k ≡ afterHead s at → (f : FieldDecl) (n : ℕ) → readFieldDecl s at ≡ ok f n → textAt s k ≡ f .name
-  declared-text at {k} h f n g =
-      let v = field-decl-at s at f n g in
-      ap (textAt s) (h ∙ fields-head 2 s at tt (v .name) (v .opens)) ∙ name-text s (v .name) (f .name) (v .ty) (v .name-is)
-
 -- the pattern against the declared type
 module _ (s : List ℕ) (at decl : ℕ) {k p t : ℕ} {fit : Fit} (h : k ≡ afterHead s decl) (o : Past s (afterHead s at) p) (u : Past s (afterHead s decl) t) (e : Accepts s p t fit) where
   fit-is : (x : PatternField) (n : ℕ) (f : FieldDecl) (m : ℕ) → readPatternField s at ≡ ok x n → readFieldDecl s decl ≡ ok f m → unfitOf s fit ≡ patternExprCompatible (x .pattern) (f .ty)
   fit-is x n f m g i =
-      let a = pattern-stands s at o x n g in
-      let b = type-stands s decl u f m i in
-      e .of (x .pattern) (a .0) (f .ty) (b .0) (a .1) (b .1)
+      e .of (x .pattern) n (f .ty) m (pattern-stands s at x n g o) (field-type s decl f m i u)
 
   pub fits-fine : fit ≡ Fine → FitsField s at decl Nothing
   unfolding unfitOf blameOf blame
@@ -165,7 +117,7 @@ module _ (s : List ℕ) (at decl : ℕ) {k p t : ℕ} {fit : Fit} (h : k ≡ aft
 
   pub fits-not : {c : Cause} → fit ≡ Unfit c → FitsField s at decl (Found (Field k) c)
   unfolding unfitOf blameOf blame withinOf
-  fits-not q = record { of = λ x n f m g i. rw (sym (fit-is x n f m g i), q, declared-text s decl h f m i) }
+  fits-not q = record { of = λ x n f m g i. rw (sym (fit-is x n f m g i), q, field-text s decl f m i h) }
 
 -- a pair that is put into a table, and one past its end
 pub pair-out : (table : List ℕ) (w a b : ℕ) → length table ≤ w → table ≡ set (set table w a) (w + 1) b
@@ -231,8 +183,7 @@ module _ (s : List ℕ) (at decl first i : ℕ) {name : Naming} (table : List �
     few = omega arith;
     kept = ap (take w) t ∙ take-set-le w (set table w k) (w + 1) ty (omega arith) ∙ take-set-le w table w k (omega arith);
     of = λ x n f m seen g d p.
-        let b = type-stands s decl o f m d in
-        go seen x f (x .name) (sym (ap (namedOf s) q) ∙ a .of x n seen g p) (e .of x n f m g d) (type-is s ty (f .ty) (b .0) (b .1));
+        go seen x f (x .name) (sym (ap (namedOf s) q) ∙ a .of x n seen g p) (e .of x n f m g d) (type-is s ty (f .ty) m (field-type s decl f m d o));
   }
     where
       go : (seen : List Name) (x : PatternField) (f : FieldDecl) (o : Option Name) → fresh (textAt s k) ≡ nameIn seen o → blameOf s b ≡ blame (field (f .name)) (patternExprCompatible (x .pattern) (f .ty)) → exprTypeAt s ty ≡ typeToExprType (f .ty) → Binds s table w (judgeField noMore seen f x o) (record { blame = b; words = 2 }) table′
@@ -240,15 +191,3 @@ module _ (s : List ℕ) (at decl first i : ℕ) {name : Naming} (table : List �
       go seen x f (some n) z i y =
           let a = is-fresh (member n seen) n z in
           rw (a .0, orElse-none) (record { fault = i; pairs = k ∷ (ty ∷ []); are = more-bound (a .1) y none-bound; many = refl; words = t ∙ rw (add-one w) })
-
--- the count of a list
-module _ (s : List ℕ) (at : ℕ) {a : Answer} (e : a ≡ answer (readCount maxList s at)) where
-  pub counted : {c : ℕ} {first : Cursor} → a ≡ Got c first → Counted s at c
-  unfolding countOf
-  counted {c} {first} q =
-      let r = num _ e q in
-      record { is = rw r; few = count-kind s at maxList c (first .at) r .1 }
-
-  pub counted-none : {f : Fault} {p : ℕ} → a ≡ Refused f p → Counted s at 0
-  unfolding countOf
-  counted-none q = record { is = rw (out _ e q); few = omega arith }

@@ -4,40 +4,30 @@ use mathlib.Core.Path.{_≡_, refl, sym, ap, subst, _∙_}
 use mathlib.Core.Bool.{Bool, true, false}
 use mathlib.Core.List.{List, [], _∷_}
 use mathlib.Core.Option.{Option, none, some}
-use native.Mathlib.Omega.{arith}
-use lib.ListN.{length}
-use Rattle.reading.specs.Read.{Read, Reader, ok, pick}
+use Rattle.reading.specs.Read.{Reader, ok, pick}
 use Rattle.reading.specs.Limits.{maxList}
 use Rattle.reading.specs.Item.{readCount}
 use Rattle.reading.specs.Text.{Name}
-use Rattle.reading.specs.Combine.{entries, listOf}
 use Rattle.reading.specs.Decl.{EnumDecl, ConstructorVariant, ConstructorGroup, readEnumDecl, readConstructorVariant, readConstructorGroup}
 use Rattle.reading.specs.Skip.{textAt}
-use Rattle.reading.specs.Link.{answer, taggedOf}
 use Rattle.reading.specs.Views.{ConstructorVariantAt, unit-variant, struct-variant}
-use Rattle.reading.specs.declared.cursor.Cursor.{Cursor}
-use Rattle.reading.specs.declared.fault.Fault.{Fault}
-use Rattle.reading.specs.declared.item.Answer.{Answer}
-use Rattle.reading.specs.declared.item.Answer.the-variants.{Got, Refused}
-use Rattle.reading.specs.declared.item.Tag.{Tag}
-use Rattle.reading.specs.declared.item.Tagged.{Tagged}
-use Rattle.reading.specs.declared.item.Tagged.the-variants as tagged
 use Rattle.reading.proofs.Rules.{no}
-use Rattle.reading.proofs.Answers.{num, out}
 use Rattle.reading.proofs.DeclLaws.{enum-decl-laws, constructor-variant-laws, constructor-group-laws}
-use Rattle.reading.proofs.Views.{enum-decl-at, constructor-group-at}
 use Rattle.reading.proofs.CaseViews.{constructor-variant-at}
-use Rattle.reading.proofs.ListViews.{list-at}
 use Rattle.reading.proofs.Walks.{name-text}
 use Rattle.typing.specs.Causes.{firstOf}
 use Rattle.typing.specs.Names.{eqName, called, firstCalled}
 use Rattle.typing.specs.Patterns.{declaredName}
 use Rattle.typing.specs.Table.{placeAfter, afterHead, afterTag, Past}
-use Rattle.typing.specs.First.{FoundAt, found-here, found-nothing, groupName, enumName, First}
+use Rattle.typing.specs.First.{FoundAt, found-here, found-nothing, groupName, enumName, First, FirstGroup, FirstEnum, FirstVariant}
+use Rattle.typing.specs.Entries.{opened}
+use Rattle.typing.specs.declared.entries.Entries.{Entries}
 use Rattle.typing.specs.declared.table.Found.{Found}
 use Rattle.typing.specs.declared.table.Found.the-variants.{At, Nothing}
-use Rattle.typing.proofs.TableLaws.{tag-was, tag-out}
-use Rattle.typing.proofs.EnvLaws.{entry, after-is, fields-head}
+use Rattle.typing.proofs.NameLaws.{eqName-eq}
+use Rattle.typing.proofs.EnvLaws.{after-is}
+use Rattle.typing.proofs.EntryLaws.{entered, Scanning, scan-done, scan-turn, scan-next}
+use Rattle.typing.proofs.PartLaws.{group-text, enum-text}
 
 -- what was found, from what the code learnt of it
 module _ {A : Type 0} {F : Reader A} {s : List ℕ} where
@@ -49,127 +39,79 @@ module _ {A : Type 0} {F : Reader A} {s : List ℕ} where
   found-yes found-nothing q = no (cc)
   found-yes {k = k} (found-here {k = j} e) q = let i : j ≡ k = cc in (_, _, ap (F s) (sym i) ∙ e, refl)
 
--- the place after a data enum's head
-pub tag-to : (m : Read Tag) {r : Tagged} {t : Tag} {c : Cursor} → r ≡ taggedOf m → r ≡ tagged.Case t c → c .at ≡ placeAfter m
-unfolding placeAfter
-tag-to m e q = rw (tag-was m e q)
+-- the first of a name has the name
+called-first : {A : Type 0} (name : A → Name) (w : Name) (x y : A) (o : Option A) (t : Bool) → eqName (name y) w ≡ t → (o ≡ some x → name x ≡ w) → firstOf (pick t (some y) none) o ≡ some x → name x ≡ w
+unfolding firstOf pick
+called-first name w x y o true q h e = let i : y ≡ x = cc in ap name (sym i) ∙ eqName-eq (name y) w q
+called-first name w x y o false q h e = h e
 
-pub tag-away : (m : Read Tag) {r : Tagged} {f : Fault} {p : ℕ} → r ≡ taggedOf m → r ≡ tagged.Refused f p → p ≡ placeAfter m
-unfolding placeAfter
-tag-away m e q = rw (tag-out m e q)
+pub called-is : {A : Type 0} (name : A → Name) (w : Name) (xs : List A) (x : A) → firstCalled name w xs ≡ some x → name x ≡ w
+unfolding firstCalled called
+called-is name w [] x e = no (cc)
+called-is name w (y ∷ ys) x e = called-first name w x y (firstCalled name w ys) (eqName (name y) w) refl (called-is name w ys x) e
 
-pub record Left {A : Type 0} (F : Reader A) (name : A → Name) (s : List ℕ) (w : Name) (left k : ℕ) (xs : List A) (n : ℕ) : Type 0 where
-  pub rest : List A
-  pub many : length rest ≡ left
-  pub reads : entries (length rest) F s k ≡ ok rest n
-  pub same : firstCalled name w rest ≡ firstCalled name w xs
+-- a search through a list that was opened
+abbrev pub Seeking : {A : Type 0} → Reader A → (A → Name) → List ℕ → Name → ℕ → ℕ → ℕ → ℕ → Type 0
+Seeking F name s w many first left k = Scanning F (firstCalled name w) s many first left k
 
-pub record Scanning {A : Type 0} (F : Reader A) (name : A → Name) (s : List ℕ) (at : ℕ) (w : Name) (left k : ℕ) : Type 0 where
-  pub of : (xs : List A) (n : ℕ) → listOf maxList F s at ≡ ok xs n → Left F name s w left k xs n
+module _ {A : Type 0} (F : Reader A) (name : A → Name) (s : List ℕ) (at : ℕ) (w : Name) {e : Entries} (h : e ≡ opened (readCount maxList s at)) (left k : ℕ) (g : Seeking F name s w (e .many) (e .first) left k) where
+  pub first-done : left ≤ 0 → First F name s at w Nothing
+  unfolding firstCalled
+  first-done z = record { of = λ xs n q. subst (FoundAt F s Nothing) (scan-done g z xs (entered F s at h xs n q)) found-nothing }
 
-module _ {A : Type 0} (F : Reader A) (name : A → Name) (s : List ℕ) (at : ℕ) (w : Name) where
-  module _ {a : Answer} (e : a ≡ answer (readCount maxList s at)) where
-    pub first-none : (r : Found) {f : Fault} {p : ℕ} → a ≡ Refused f p → First F name s at w r
-    first-none r q = record { of = λ xs n g. let l = list-at F s maxList at xs n g in no (let x = out _ e q in let y = l .opens in cc) }
-
-    pub first-start : {c : ℕ} {first : Cursor} → a ≡ Got c first → Scanning F name s at w c (first .at)
-    first-start {c} {first} q = record {
-      of = λ xs n g.
-          let l = list-at F s maxList at xs n g in
-          let x = num _ e q in
-          let y = l .opens in
-          let u : length xs ≡ c = cc in
-          let v : l .first ≡ first .at = cc in
-          record { rest = xs; many = u; reads = ap (entries (length xs) F s) (sym v) ∙ l .entries-are; same = refl };
+  module _ (z : 0 < left) {b : Bool} (t : (x : A) (n : ℕ) → F s k ≡ ok x n → b ≡ eqName (name x) w) where
+    hit : b ≡ true → First F name s at w (At k)
+    unfolding firstCalled called pick firstOf
+    hit q = record {
+      of = λ xs n i.
+          let u = scan-turn g z xs (entered F s at h xs n i) in
+          subst (FoundAt F s (At k)) (rw (sym (t (u .head) (u .end) (u .here)) ∙ q) at (u .same)) (found-here (u .here));
     }
 
-  module _ (left k : ℕ) (g : Scanning F name s at w left k) where
-    pub first-done : left ≤ 0 → First F name s at w Nothing
-    unfolding firstCalled
-    first-done h = record { of = λ xs n q. let l = g .of xs n q in subst (FoundAt F s Nothing) (l .same) (go (l .rest) (l .many)) }
-      where
-        go : (rest : List A) → length rest ≡ left → FoundAt F s Nothing (firstCalled name w rest)
-        go [] m = found-nothing
-        go (x ∷ xs) m = absurd (omega arith)
+    miss : {k' : ℕ} → b ≡ false → ((x : A) (n : ℕ) → F s k ≡ ok x n → k' ≡ n) → Seeking F name s w (e .many) (e .first) (left - 1) k'
+    unfolding firstCalled called pick firstOf
+    miss q p = scan-next g z p λ x n i rest. rw (sym (t x n i) ∙ q)
 
-    module _ (h : 0 < left) {b : Bool} (e : (x : A) (n : ℕ) → F s k ≡ ok x n → b ≡ eqName (name x) w) where
-      hit : b ≡ true → First F name s at w (At k)
-      unfolding firstCalled called pick firstOf
-      hit z = record { of = λ xs n q. let l = g .of xs n q in subst (FoundAt F s (At k)) (l .same) (go (l .rest) n (l .many) (l .reads)) }
-        where
-          go : (rest : List A) (n : ℕ) → length rest ≡ left → entries (length rest) F s k ≡ ok rest n → FoundAt F s (At k) (firstCalled name w rest)
-          go [] n m r = absurd (omega arith)
-          go (x ∷ xs) n m r =
-              let u = entry F s k x xs n r in
-              rw (sym (e x (u .end) (u .here)) ∙ z) (found-here (u .here))
-
-      miss : {k' : ℕ} → b ≡ false → ((x : A) (n : ℕ) → F s k ≡ ok x n → k' ≡ n) → Scanning F name s at w (left - 1) k'
-      unfolding firstCalled called pick firstOf
-      miss {k'} z t = record { of = λ xs n q. let l = g .of xs n q in go (l .rest) n (l .many) (l .reads) (l .same) }
-        where
-          go : (rest : List A) (n : ℕ) {o : List A} → length rest ≡ left → entries (length rest) F s k ≡ ok rest n → firstCalled name w rest ≡ firstCalled name w o → Left F name s w (left - 1) k' o n
-          go [] n m r i = absurd (omega arith)
-          go (x ∷ xs) n m r i =
-              let u = entry F s k x xs n r in
-              record {
-                rest = xs;
-                many = omega arith;
-                reads = ap (entries (length xs) F s) (t x (u .end) (u .here)) ∙ u .rest;
-                same = rw (sym (e x (u .end) (u .here)) ∙ z) at i;
-              }
-
--- records: the name stands after the head
-module _ {A : Type 0} (F : Reader A) (name : A → Name) (s : List ℕ) (named : (k : ℕ) (x : A) (n : ℕ) → F s k ≡ ok x n → textAt s (afterHead s k) ≡ name x) (at : ℕ) (w : Name) (left k : ℕ) {key : ℕ} {text : Name} {b : Bool} (g : Scanning F name s at w left k) (h : 0 < left) (i : key ≡ afterHead s k) (t : text ≡ textAt s key) (e : b ≡ eqName text w) where
-  record-name : (x : A) (n : ℕ) → F s k ≡ ok x n → b ≡ eqName (name x) w
-  record-name x n q = e ∙ ap (λ (z : Name). eqName z w) (t ∙ ap (textAt s) i ∙ named k x n q)
-
-  record-hit : b ≡ true → First F name s at w (At k)
-  record-hit = hit F name s at w left k g h record-name
-
-  record-miss : {k' : ℕ} → b ≡ false → ((x : A) (n : ℕ) → F s k ≡ ok x n → k' ≡ n) → Scanning F name s at w (left - 1) k'
-  record-miss z p = miss F name s at w left k g h record-name z p
-
-group-named : (s : List ℕ) (k : ℕ) (x : ConstructorGroup) (n : ℕ) → readConstructorGroup s k ≡ ok x n → textAt s (afterHead s k) ≡ groupName x
-group-named s k x n q =
-    let v = constructor-group-at s k x n q in
-    ap (textAt s) (fields-head 2 s k tt (v .name) (v .opens)) ∙ name-text s (v .name) (x .name) (v .variants) (v .name-is)
-
-enum-named : (s : List ℕ) (k : ℕ) (x : EnumDecl) (n : ℕ) → readEnumDecl s k ≡ ok x n → textAt s (afterHead s k) ≡ enumName x
-enum-named s k x n q =
-    let v = enum-decl-at s k x n q in
-    ap (textAt s) (fields-head 2 s k tt (v .name) (v .opens)) ∙ name-text s (v .name) (x .name) (v .variants) (v .name-is)
-
-module _ (s : List ℕ) (at : ℕ) (w : Name) (left k : ℕ) {key : ℕ} {text : Name} {b : Bool} (h : 0 < left) (i : key ≡ afterHead s k) (t : text ≡ textAt s key) (e : b ≡ eqName text w) where
-  module _ (g : Scanning readConstructorGroup groupName s at w left k) where
-    pub group-hit : b ≡ true → First readConstructorGroup groupName s at w (At k)
-    group-hit = record-hit readConstructorGroup groupName s (group-named s) at w left k g h i t e
-
-    pub group-miss : {k' : ℕ} → b ≡ false → Past s k k' → Scanning readConstructorGroup groupName s at w (left - 1) k'
-    group-miss z p = record-miss readConstructorGroup groupName s (group-named s) at w left k g h i t e z (λ x n q. p .is ∙ after-is constructor-group-laws s (p .each) k x n q)
-
-  module _ (g : Scanning readEnumDecl enumName s at w left k) where
-    pub enum-hit : b ≡ true → First readEnumDecl enumName s at w (At k)
-    enum-hit = record-hit readEnumDecl enumName s (enum-named s) at w left k g h i t e
-
-    pub enum-miss : {k' : ℕ} → b ≡ false → Past s k k' → Scanning readEnumDecl enumName s at w (left - 1) k'
-    enum-miss z p = record-miss readEnumDecl enumName s (enum-named s) at w left k g h i t e z (λ x n q. p .is ∙ after-is enum-decl-laws s (p .each) k x n q)
-
--- variants: after the case number
-pub declared-text : (s : List ℕ) {m c n : ℕ} {x : ConstructorVariant} → ConstructorVariantAt s m c x n → textAt s m ≡ declaredName x
-unfolding declaredName
-declared-text s {m} (unit-variant q) = name-text s m _ _ q
-declared-text s {m} (struct-variant q r) = name-text s m _ _ q
-
+-- a declared variant: the name stands after the case number
 pub variant-text : (s : List ℕ) (k : ℕ) (x : ConstructorVariant) (n : ℕ) → readConstructorVariant s k ≡ ok x n → textAt s (afterTag s k) ≡ declaredName x
-unfolding placeAfter
-variant-text s k x n q = let v = constructor-variant-at s k x n q in ap (λ (m : Read Tag). textAt s (placeAfter m)) (v .tagged) ∙ declared-text s (v .fields)
+unfolding placeAfter declaredName
+variant-text s k x n e = let u = constructor-variant-at s k x n e in rw (u .tagged) (go (u .fields))
+  where
+    go : {m c : ℕ} {x : ConstructorVariant} {n : ℕ} → ConstructorVariantAt s m c x n → textAt s m ≡ declaredName x
+    go {m} (unit-variant q) = name-text s m _ _ q
+    go {m} (struct-variant q r) = name-text s m _ _ q
 
-module _ (s : List ℕ) (at : ℕ) (w : Name) (left k : ℕ) {key : ℕ} {text : Name} {b : Bool} (g : Scanning readConstructorVariant declaredName s at w left k) (h : 0 < left) (i : key ≡ afterTag s k) (t : text ≡ textAt s key) (e : b ≡ eqName text w) where
-  variant-name : (x : ConstructorVariant) (n : ℕ) → readConstructorVariant s k ≡ ok x n → b ≡ eqName (declaredName x) w
-  variant-name x n q = e ∙ ap (λ (z : Name). eqName z w) (t ∙ ap (textAt s) i ∙ variant-text s k x n q)
+-- by the place of the name in each kind of entry
+module _ (s : List ℕ) (at : ℕ) (w : Name) {e : Entries} (o : e ≡ opened (readCount maxList s at)) (left k : ℕ) (z : 0 < left) {key : ℕ} {text : Name} {b : Bool} (t : text ≡ textAt s key) (f : b ≡ eqName text w) where
+  -- records
+  module _ (i : key ≡ afterHead s k) where
+    module _ (g : Seeking readConstructorGroup groupName s w (e .many) (e .first) left k) where
+      group-called : (x : ConstructorGroup) (n : ℕ) → readConstructorGroup s k ≡ ok x n → b ≡ eqName (groupName x) w
+      group-called x n q = f ∙ ap (λ (y : Name). eqName y w) (t ∙ ap (textAt s) i ∙ group-text s k x n q)
 
-  pub variant-hit : b ≡ true → First readConstructorVariant declaredName s at w (At k)
-  variant-hit = hit readConstructorVariant declaredName s at w left k g h variant-name
+      pub group-hit : b ≡ true → FirstGroup s at w (At k)
+      group-hit = hit readConstructorGroup groupName s at w o left k g z group-called
 
-  pub variant-miss : {k' : ℕ} → b ≡ false → Past s k k' → Scanning readConstructorVariant declaredName s at w (left - 1) k'
-  variant-miss z p = miss readConstructorVariant declaredName s at w left k g h variant-name z (λ x n q. p .is ∙ after-is constructor-variant-laws s (p .each) k x n q)
+      pub group-miss : {k' : ℕ} → b ≡ false → Past s k k' → Seeking readConstructorGroup groupName s w (e .many) (e .first) (left - 1) k'
+      group-miss y p = miss readConstructorGroup groupName s at w o left k g z group-called y λ x n q. p .is ∙ after-is constructor-group-laws s (p .each) k x n q
+
+    module _ (g : Seeking readEnumDecl enumName s w (e .many) (e .first) left k) where
+      enum-called : (x : EnumDecl) (n : ℕ) → readEnumDecl s k ≡ ok x n → b ≡ eqName (enumName x) w
+      enum-called x n q = f ∙ ap (λ (y : Name). eqName y w) (t ∙ ap (textAt s) i ∙ enum-text s k x n q)
+
+      pub enum-hit : b ≡ true → FirstEnum s at w (At k)
+      enum-hit = hit readEnumDecl enumName s at w o left k g z enum-called
+
+      pub enum-miss : {k' : ℕ} → b ≡ false → Past s k k' → Seeking readEnumDecl enumName s w (e .many) (e .first) (left - 1) k'
+      enum-miss y p = miss readEnumDecl enumName s at w o left k g z enum-called y λ x n q. p .is ∙ after-is enum-decl-laws s (p .each) k x n q
+
+  -- variants
+  module _ (i : key ≡ afterTag s k) (g : Seeking readConstructorVariant declaredName s w (e .many) (e .first) left k) where
+    variant-called : (x : ConstructorVariant) (n : ℕ) → readConstructorVariant s k ≡ ok x n → b ≡ eqName (declaredName x) w
+    variant-called x n q = f ∙ ap (λ (y : Name). eqName y w) (t ∙ ap (textAt s) i ∙ variant-text s k x n q)
+
+    pub variant-hit : b ≡ true → FirstVariant s at w (At k)
+    variant-hit = hit readConstructorVariant declaredName s at w o left k g z variant-called
+
+    pub variant-miss : {k' : ℕ} → b ≡ false → Past s k k' → Seeking readConstructorVariant declaredName s w (e .many) (e .first) (left - 1) k'
+    variant-miss y p = miss readConstructorVariant declaredName s at w o left k g z variant-called y λ x n q. p .is ∙ after-is constructor-variant-laws s (p .each) k x n q

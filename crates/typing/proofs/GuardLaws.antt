@@ -3,24 +3,20 @@ use Prim.Native.Nat.{ℕ, _-_}
 use mathlib.Core.Path.{_≡_, refl, sym, ap, _∙_}
 use mathlib.Core.Bool.{Bool, true, false}
 use mathlib.Core.List.{List, _++_}
-use native.Mathlib.Omega.{arith}
 use lib.Dec.{eqb}
 use borrow.Author.Tests.{eq-eqb, ne-eqb}
 use Rattle.reading.specs.Read.{ok, pick}
-use Rattle.reading.specs.Item.{readKind, readBool, readTag}
+use Rattle.reading.specs.Item.{readKind, readBool}
 use Rattle.reading.specs.Text.{Name}
 use Rattle.reading.specs.Expr.{Expr, readExpr}
 use Rattle.reading.specs.Expr as expr
 use Rattle.reading.specs.Skip.{textAt}
-use Rattle.reading.specs.Link.{answer, taggedOf}
+use Rattle.reading.specs.Link.{answer}
 use Rattle.reading.specs.Views.{ExprAt, int-expr, bool-expr, path-expr, unary-expr, binary-expr}
 use Rattle.reading.specs.declared.cursor.Cursor.{Cursor}
 use Rattle.reading.specs.declared.fault.Fault.{Fault}
 use Rattle.reading.specs.declared.item.Answer.{Answer}
 use Rattle.reading.specs.declared.item.Answer.the-variants.{Got, Refused}
-use Rattle.reading.specs.declared.item.Tag.{Tag}
-use Rattle.reading.specs.declared.item.Tagged.{Tagged}
-use Rattle.reading.specs.declared.item.Tagged.the-variants as tagged
 use Rattle.reading.proofs.Rules.{no}
 use Rattle.reading.proofs.Gives.{Gives, gives-ok, gives-refused, gives-pick, gives-bind}
 use Rattle.reading.proofs.Answers.{num, out}
@@ -28,6 +24,8 @@ use Rattle.typing.specs.Causes.{firstOf}
 use Rattle.typing.specs.Guards.{isLiteralFalse, conjuncts, contradictoryEqualities}
 use Rattle.typing.specs.Holds.{clashOf, LiteralFalse, Contradicts}
 use Rattle.typing.specs.Tells.{Ends}
+use Rattle.typing.specs.Table.{placeAfter, afterTag}
+use Rattle.typing.specs.Entries.{caseIs, caseAt}
 use Rattle.typing.specs.Equalities.{listed, equalitiesOf, differs, firstClash, equalityOf, FalseAt, ConjunctAt, FirstEquality, ClashOf, FirstClash, ClashOfTwo}
 use Rattle.typing.specs.declared.guard.Clash.{Clash}
 use Rattle.typing.specs.declared.guard.Clash.the-variants as clash
@@ -37,7 +35,7 @@ use Rattle.typing.specs.declared.equality.Conjunct.{Conjunct}
 use Rattle.typing.specs.declared.equality.Conjunct.the-variants.{And, One}
 use Rattle.typing.proofs.EnvLaws.{first-none}
 use Rattle.typing.proofs.ClashLaws.{clash-append, clashes-are}
-use Rattle.typing.proofs.EqualityLaws.{deep-enough, case-fields, no-case, was-and, was-one}
+use Rattle.typing.proofs.EqualityLaws.{deep-enough, stands, was-and, was-one}
 
 -- the literal false: 20 in a head of major type 7
 bool-head : (s : List ℕ) (at : ℕ) → Gives (λ b n. (v : ℕ) × (readKind 7 s at ≡ ok v n) × (eqb v 20 ≡ isLiteralFalse (expr.bool b))) (readBool s at)
@@ -58,31 +56,33 @@ module _ (s : List ℕ) (at : ℕ) {a : Answer} (e : a ≡ answer (readKind 7 s 
         h ∙ ap (λ (i : ℕ). eqb i 20) z ∙ w .2;
   }
 
-module _ (d : ℕ) (s : List ℕ) (at : ℕ) {a : Tagged} (e : a ≡ taggedOf (readTag s at)) where
-  pub literal-none : (r : Bool) {f : Fault} {p : ℕ} → a ≡ tagged.Refused f p → LiteralFalse d s at r
-  literal-none r q = record { of = λ x n g. no-case d s at e x n g q }
+-- by the case of the expression: a bool has case 1
+module _ (d : ℕ) (s : List ℕ) (at : ℕ) {b : Bool} (e : b ≡ caseAt s at 1) where
+  pub literal-other : b ≡ false → LiteralFalse d s at false
+  unfolding caseIs isLiteralFalse
+  literal-other q = record { of = λ x n g. let v = stands d s at x n g in go (v .fields) (sym q ∙ e ∙ ap (caseIs 1) (v .tagged)) }
+    where
+      go : {k m : ℕ} {x : Expr} {n : ℕ} → ExprAt (d - 1) s k m x n → false ≡ eqb m 1 → false ≡ isLiteralFalse x
+      go (int-expr u) i = refl
+      go (bool-expr u) i = no (cc)
+      go (path-expr u) i = refl
+      go (unary-expr u v) i = refl
+      go (binary-expr u v w) i = refl
 
-  module _ {t : Tag} {c : Cursor} (q : a ≡ tagged.Case t c) where
-    pub literal-other : (t .case ≡ 1 → ⊥) → LiteralFalse d s at false
-    unfolding isLiteralFalse
-    literal-other k = record { of = λ x n g. go (case-fields d s at e x n g q) k }
-      where
-        go : {m : ℕ} {x : Expr} {n : ℕ} → ExprAt (d - 1) s (c .at) m x n → (m ≡ 1 → ⊥) → false ≡ isLiteralFalse x
-        go (int-expr u) i = refl
-        go (bool-expr u) i = absurd (i refl)
-        go (path-expr u) i = refl
-        go (unary-expr u v) i = refl
-        go (binary-expr u v w) i = refl
-
-    pub literal-bool : (r : Bool) → t .case ≡ 1 → FalseAt s (c .at) r → LiteralFalse d s at r
-    literal-bool r k h = record { of = λ x n g. go (case-fields d s at e x n g q) k }
-      where
-        go : {m : ℕ} {x : Expr} {n : ℕ} → ExprAt (d - 1) s (c .at) m x n → m ≡ 1 → r ≡ isLiteralFalse x
-        go (int-expr u) i = absurd (omega arith)
-        go (bool-expr u) i = h .of _ _ u
-        go (path-expr u) i = absurd (omega arith)
-        go (unary-expr u v) i = absurd (omega arith)
-        go (binary-expr u v w) i = absurd (omega arith)
+  pub literal-bool : {k : ℕ} (r : Bool) → b ≡ true → k ≡ afterTag s at → FalseAt s k r → LiteralFalse d s at r
+  unfolding caseIs placeAfter
+  literal-bool r q j h = record {
+    of = λ x n g.
+        let v = stands d s at x n g in
+        go (v .fields) (sym q ∙ e ∙ ap (caseIs 1) (v .tagged)) (rw (j ∙ ap placeAfter (v .tagged)) at h);
+  }
+    where
+      go : {k m : ℕ} {x : Expr} {n : ℕ} → ExprAt (d - 1) s k m x n → true ≡ eqb m 1 → FalseAt s k r → r ≡ isLiteralFalse x
+      go (int-expr u) i o = no (cc)
+      go (bool-expr u) i o = o .of _ _ u
+      go (path-expr u) i o = no (cc)
+      go (unary-expr u v) i o = no (cc)
+      go (binary-expr u v w) i o = no (cc)
 
 -- an equality against the first of its name
 module _ (s : List ℕ) (root depth : ℕ) {q : Equality} where

@@ -1,24 +1,20 @@
 -- What each step of the judging of a formula gives, for whatever reads there.
 use Prim.Native.Nat.{ℕ, suc, _-_, _<_, _≤_}
-use mathlib.Core.Path.{_≡_, refl, sym, ap, subst, _∙_}
+use mathlib.Core.Path.{_≡_, refl, sym, ap, _∙_}
 use mathlib.Core.Bool.{Bool, true, false}
-use mathlib.Core.List.{List, [], _∷_}
+use mathlib.Core.List.{List}
 use mathlib.Core.Option.{Option, none, some}
 use native.Mathlib.Omega.{arith}
 use lib.Dec.{eqb}
 use lib.ListN.{length, getD, List·getD-eq-default}
-use borrow.Author.Tests.{eq-eqb, ne-eqb}
-use Rattle.reading.specs.Read.{Reader, ok, pick}
-use Rattle.reading.specs.Limits.{maxU64, maxList}
-use Rattle.reading.specs.Item.{readNumber, readCount, readTag}
-use Rattle.reading.specs.Text.{Name, readName}
-use Rattle.reading.specs.Expr.{Expr, readExpr}
-use Rattle.reading.specs.Combine.{entries, listOf, optional}
-use Rattle.reading.specs.Pattern.{PatternField, PatternVariant, Pattern, readPatternField, readPatternVariant, readPattern}
+use Rattle.reading.specs.Read.{ok, pick}
+use Rattle.reading.specs.Limits.{maxU64}
+use Rattle.reading.specs.Item.{readNumber, readTag}
+use Rattle.reading.specs.Pattern.{PatternVariant, Pattern, readPatternField, readPatternVariant, readPattern}
+use Rattle.reading.specs.Pattern as pattern
 use Rattle.reading.specs.Formula.{Formula, readFormula}
 use Rattle.reading.specs.Formula as formula
 use Rattle.reading.specs.Link.{answer, taggedOf}
-use Rattle.reading.specs.Views.{OptionAt, absent, present, PatternVariantAt, unit-pattern, struct-pattern}
 use Rattle.reading.specs.declared.cursor.Cursor.{Cursor}
 use Rattle.reading.specs.declared.fault.Fault.{Fault}
 use Rattle.reading.specs.declared.item.Answer.{Answer}
@@ -26,27 +22,26 @@ use Rattle.reading.specs.declared.item.Answer.the-variants.{Got, Refused}
 use Rattle.reading.specs.declared.item.Tag.{Tag}
 use Rattle.reading.specs.declared.item.Tagged.{Tagged}
 use Rattle.reading.specs.declared.item.Tagged.the-variants as tagged
-use Rattle.reading.proofs.Rules.{no, pick-true, pick-false}
+use Rattle.reading.proofs.Rules.{no}
 use Rattle.reading.proofs.Answers.{num, out}
-use Rattle.reading.proofs.ExprLaws.{name-laws}
 use Rattle.reading.proofs.PatternLaws.{pattern-field-laws}
-use Rattle.reading.proofs.Views.{pattern-field-at, pattern-at}
-use Rattle.reading.proofs.CaseViews.{pattern-variant-at, formula-at, by-tag}
-use Rattle.reading.proofs.ListViews.{list-at, option-at}
+use Rattle.reading.proofs.CaseViews.{formula-at}
+use Rattle.reading.proofs.ListViews.{option-at}
 use Rattle.typing.specs.Causes as causes
 use Rattle.typing.specs.Causes.{firstOf}
 use Rattle.typing.specs.Rules.{isBool, mustBool}
 use Rattle.typing.specs.Env.{Env, given}
-use Rattle.typing.specs.Typing.{typeExpr}
 use Rattle.typing.specs.Formulas.{fieldsBind, variantBinds, checkPatternGroup, boolCause, typeFormula}
 use Rattle.typing.specs.Means.{tyOf, causeOf, unfitOf}
 use Rattle.typing.specs.Tells.{Ends}
-use Rattle.typing.specs.Table.{placeAfter, afterItem, afterHead, Past}
+use Rattle.typing.specs.Table.{afterHead, Past}
 use Rattle.typing.specs.Typed.{Types}
 use Rattle.typing.specs.Shape.{kindOf}
+use Rattle.typing.specs.Entries.{givenFields, FieldsAt}
 use Rattle.typing.specs.Judges.{FieldBinds, FieldsBind, VariantBinds, ChecksGroup, TypesFormula, TypesBool, TypesBounded, TypesTwo}
 use Rattle.typing.specs.declared.formula.Kind.{Kind}
 use Rattle.typing.specs.declared.formula.Kind.the-variants.{Input, Output, Expression, One, Always, Sometime, Two, Unknown}
+use Rattle.typing.specs.declared.entries.Entries.{Entries}
 use Rattle.typing.specs.declared.ty.Ty.{Ty}
 use Rattle.typing.specs.declared.cause.Cause.{Cause}
 use Rattle.typing.specs.declared.cause.Cause.the-variants.{BindingInFormula, MustBeBool}
@@ -55,160 +50,64 @@ use Rattle.typing.specs.declared.cause.Typed.{Typed}
 use Rattle.typing.specs.declared.cause.Typed.the-variants.{Is, Fails}
 use Rattle.typing.specs.declared.rules.Fit.{Fit}
 use Rattle.typing.specs.declared.rules.Fit.the-variants.{Fine, Unfit}
-use Rattle.typing.proofs.TableLaws.{tag-was, tag-out}
-use Rattle.typing.proofs.EnvLaws.{Entry, entry, after-is, fields-head}
+use Rattle.typing.proofs.TableLaws.{tag-out}
+use Rattle.typing.proofs.EnvLaws.{after-is}
+use Rattle.typing.proofs.EntryLaws.{Scanning, scan-done, scan-turn, scan-next}
+use Rattle.typing.proofs.PartLaws.{option-null, option-there, name-stands, pattern-variant}
 use Rattle.typing.proofs.TypeLaws.{is-typed, is-failed}
 use Rattle.typing.proofs.ShapeLaws.{Shape, input, output, expression, one, always, sometime, two, shape, formula-fields}
 
--- a name that may be absent
-option-given : {A : Type 0} {F : Reader A} (s : List ℕ) (at : ℕ) {o : Option A} {n : ℕ} → OptionAt F s at o n → given o ≡ pick (eqb (getD s at 0) 246) false true
-unfolding given pick
-option-given s at (absent q r) = rw (eq-eqb _ _ q)
-option-given s at (present q r) = rw (ne-eqb _ _ q)
-
-field-name : (s : List ℕ) (at : ℕ) (p : PatternField) (n : ℕ) → readPatternField s at ≡ ok p n → given (p .name) ≡ pick (eqb (getD s (afterHead s at) 0) 246) false true
-field-name s at p n e =
-    let v = pattern-field-at s at p n e in
-    let h = fields-head 2 s at tt (v .name) (v .opens) in
-    rw h (option-given s (v .name) (option-at readName s (v .name) (p .name) (v .pattern) (v .name-is)))
-
+-- a field of a pattern
 module _ (s : List ℕ) (at : ℕ) {k : ℕ} {b : Bool} (h : k ≡ afterHead s at) (e : b ≡ eqb (getD s k 0) 246) where
   pub field-absent : b ≡ true → FieldBinds s at false
-  unfolding pick
-  field-absent q = record { of = λ p n g. sym (field-name s at p n g ∙ rw (sym h, sym e ∙ q)) }
+  unfolding given
+  field-absent q = record { of = λ p n g. sym (ap given (option-null e q (name-stands s at p n g h .1))) }
 
   pub field-present : b ≡ false → FieldBinds s at true
-  unfolding pick
-  field-present q = record { of = λ p n g. sym (field-name s at p n g ∙ rw (sym h, sym e ∙ q)) }
+  unfolding given
+  field-present q = record { of = λ p n g. sym (ap given (option-there e q (name-stands s at p n g h .1) .1)) }
 
--- what is left of a list of fields decides
-pub record Left (s : List ℕ) (left k : ℕ) (ps : List PatternField) (n : ℕ) : Type 0 where
-  pub rest : List PatternField
-  pub many : length rest ≡ left
-  pub reads : entries (length rest) readPatternField s k ≡ ok rest n
-  pub same : fieldsBind rest ≡ fieldsBind ps
-
-pub record Scanning (s : List ℕ) (at left k : ℕ) : Type 0 where
-  pub of : (ps : List PatternField) (n : ℕ) → listOf maxList readPatternField s at ≡ ok ps n → Left s left k ps n
-
-module _ (s : List ℕ) (at : ℕ) {a : Answer} (e : a ≡ answer (readCount maxList s at)) where
-  pub fields-none : (r : Bool) {f : Fault} {p : ℕ} → a ≡ Refused f p → FieldsBind s at r
-  fields-none r q = record { of = λ ps n g. let l = list-at readPatternField s maxList at ps n g in no (let x = out _ e q in let y = l .opens in cc) }
-
-  pub fields-start : {c : ℕ} {first : Cursor} → a ≡ Got c first → Scanning s at c (first .at)
-  fields-start {c} {first} q = record {
-    of = λ ps n g.
-        let l = list-at readPatternField s maxList at ps n g in
-        let x = num _ e q in
-        let y = l .opens in
-        let u : length ps ≡ c = cc in
-        let v : l .first ≡ first .at = cc in
-        record { rest = ps; many = u; reads = ap (entries (length ps) readPatternField s) (sym v) ∙ l .entries-are; same = refl };
-  }
-
-module _ (s : List ℕ) (at left k : ℕ) (g : Scanning s at left k) where
-  pub fields-done : left ≤ 0 → FieldsBind s at false
+-- so many of them
+module _ (s : List ℕ) (at many left k : ℕ) (g : Scanning readPatternField fieldsBind s many at left k) where
+  pub fields-done : left ≤ 0 → FieldsBind s at many false
   unfolding fieldsBind
-  fields-done h = record { of = λ ps n q. let l = g .of ps n q in go (l .rest) (l .many) (l .same) }
-    where
-      go : (rest : List PatternField) {x : Bool} → length rest ≡ left → fieldsBind rest ≡ x → false ≡ x
-      go [] m e = e
-      go (p ∷ ps) m e = absurd (omega arith)
+  fields-done h = record { of = λ ps e. scan-done g h ps e }
 
-  module _ (h : 0 < left) {b : Bool} (e : FieldBinds s k b) where
-    pub fields-hit : b ≡ true → FieldsBind s at true
+  module _ (h : 0 < left) {b : Bool} (o : FieldBinds s k b) where
+    pub fields-hit : b ≡ true → FieldsBind s at many true
     unfolding fieldsBind pick
-    fields-hit w = record { of = λ ps n q. let l = g .of ps n q in go (l .rest) n (l .many) (l .reads) (l .same) }
-      where
-        go : (rest : List PatternField) (n : ℕ) {x : Bool} → length rest ≡ left → entries (length rest) readPatternField s k ≡ ok rest n → fieldsBind rest ≡ x → true ≡ x
-        go [] n m r z = absurd (omega arith)
-        go (p ∷ ps) n m r z =
-            let u = entry readPatternField s k p ps n r in
-            rw (sym (e .of p (u .end) (u .here)) ∙ w) at z
-
-    pub fields-miss : {k' : ℕ} → b ≡ false → Past s k k' → Scanning s at (left - 1) k'
-    unfolding fieldsBind pick
-    fields-miss {k'} w t = record { of = λ ps n q. let l = g .of ps n q in go (l .rest) n (l .many) (l .reads) (l .same) }
-      where
-        go : (rest : List PatternField) (n : ℕ) {ps : List PatternField} → length rest ≡ left → entries (length rest) readPatternField s k ≡ ok rest n → fieldsBind rest ≡ fieldsBind ps → Left s (left - 1) k' ps n
-        go [] n m r z = absurd (omega arith)
-        go (p ∷ rest) n m r z =
-            let u = entry readPatternField s k p rest n r in
-            let v : k' ≡ u .end = t .is ∙ after-is pattern-field-laws s (t .each) k p (u .end) (u .here) in
-            record {
-              rest = rest;
-              many = omega arith;
-              reads = ap (entries (length rest) readPatternField s) v ∙ u .rest;
-              same = rw (sym (e .of p (u .end) (u .here)) ∙ w) at z;
-            }
-
--- a variant that may be absent
-module _ (s : List ℕ) (at : ℕ) {b : Bool} (e : b ≡ eqb (getD s at 0) 246) where
-  variant-there : b ≡ false → (v : Option PatternVariant) (n : ℕ) → optional readPatternVariant s at ≡ ok v n → (x : PatternVariant) × (v ≡ some x) × (readPatternVariant s at ≡ ok x n)
-  variant-there q v n g = go (option-at readPatternVariant s at v n g)
-    where
-      go : {v : Option PatternVariant} {n : ℕ} → OptionAt readPatternVariant s at v n → (x : PatternVariant) × (v ≡ some x) × (readPatternVariant s at ≡ ok x n)
-      go (absent w r) = no (let i = e ∙ eq-eqb _ _ w in cc)
-      go (present w r) = (_, refl, r)
-
-  pub variant-absent : b ≡ true → VariantBinds s at false
-  unfolding variantBinds
-  variant-absent q = record { of = λ v n g. go (option-at readPatternVariant s at v n g) }
-    where
-      go : {v : Option PatternVariant} {n : ℕ} → OptionAt readPatternVariant s at v n → false ≡ variantBinds v
-      go (absent w r) = refl
-      go (present w r) = no (let i = e ∙ ne-eqb _ _ w in cc)
-
-  module _ (q : b ≡ false) {a : Tagged} (f : a ≡ taggedOf (readTag s at)) where
-    pub variant-no-tag : (r : Bool) {h : Fault} {p : ℕ} → a ≡ tagged.Refused h p → VariantBinds s at r
-    variant-no-tag r z = record {
-      of = λ v n g.
-          let x = variant-there q v n g in
-          let y = pattern-variant-at s at (x .0) n (x .2) in
-          let u = y .tagged in
-          let w = tag-out _ f z in
-          no (cc);
+    fields-hit q = record {
+      of = λ ps e.
+          let u = scan-turn g h ps e in
+          rw (sym (o .of (u .head) (u .end) (u .here)) ∙ q) at (u .same);
     }
 
-    module _ {t : Tag} {c : Cursor} (z : a ≡ tagged.Case t c) where
-      variant-case : {r : Bool} → ((x : PatternVariant) (n : ℕ) → PatternVariantAt s (c .at) (t .case) x n → r ≡ variantBinds (some x)) → VariantBinds s at r
-      variant-case h = record {
-        of = λ v n g.
-            let x = variant-there q v n g in
-            h (x .0) n (by-tag (pattern-variant-at s at (x .0) n (x .2)) (tag-was _ f z)) ∙ ap variantBinds (sym (x .1));
-      }
+    pub fields-miss : {k' : ℕ} → b ≡ false → Past s k k' → Scanning readPatternField fieldsBind s many at (left - 1) k'
+    unfolding fieldsBind pick
+    fields-miss q p = scan-next g h (λ x n i. p .is ∙ after-is pattern-field-laws s (p .each) k x n i) λ x n i rest. rw (sym (o .of x n i) ∙ q)
 
-      pub variant-unit : t .case ≡ 0 → VariantBinds s at false
-      unfolding variantBinds
-      variant-unit k = variant-case λ x n y. go y k
-        where
-          go : {m : ℕ} {x : PatternVariant} {n : ℕ} → PatternVariantAt s (c .at) m x n → m ≡ 0 → false ≡ variantBinds (some x)
-          go (unit-pattern u) i = refl
-          go (struct-pattern u v) i = absurd (omega arith)
+-- a variant that may be absent
+binds-fields : (v : PatternVariant) → fieldsBind (givenFields v) ≡ variantBinds (some v)
+unfolding givenFields variantBinds fieldsBind
+binds-fields (pattern.unit n) = refl
+binds-fields (pattern.struct n ps) = refl
 
-      pub variant-struct : {l : ℕ} {r : Bool} → t .case ≡ 1 → Past s (c .at) l → FieldsBind s l r → VariantBinds s at r
-      unfolding variantBinds
-      variant-struct {l} {r} k o g = variant-case λ x n y. go y k
-        where
-          go : {m : ℕ} {x : PatternVariant} {n : ℕ} → PatternVariantAt s (c .at) m x n → m ≡ 1 → r ≡ variantBinds (some x)
-          go (unit-pattern u) i = absurd (omega arith)
-          go (struct-pattern u v) i = g .of _ _ (ap (listOf maxList readPatternField s) (o .is ∙ after-is name-laws s (o .each) (c .at) _ _ u) ∙ v)
+module _ (s : List ℕ) (at : ℕ) {b : Bool} (e : b ≡ eqb (getD s at 0) 246) where
+  pub variant-absent : b ≡ true → VariantBinds s at false
+  unfolding variantBinds
+  variant-absent q = record { of = λ v n g. sym (ap variantBinds (option-null e q (option-at readPatternVariant s at v n g))) }
 
-      pub variant-beyond : (r : Bool) → (t .case ≡ 0 → ⊥) → (t .case ≡ 1 → ⊥) → VariantBinds s at r
-      variant-beyond r k l = variant-case λ x n y. go y k l
-        where
-          go : {m : ℕ} {x : PatternVariant} {n : ℕ} → PatternVariantAt s (c .at) m x n → (m ≡ 0 → ⊥) → (m ≡ 1 → ⊥) → r ≡ variantBinds (some x)
-          go (unit-pattern u) i j = absurd (i refl)
-          go (struct-pattern u v) i j = absurd (j refl)
+  pub variant-there : {f : Entries} {r : Bool} → b ≡ false → FieldsAt s at f → FieldsBind s (f .first) (f .many) r → VariantBinds s at r
+  variant-there q h o = record {
+    of = λ v n g.
+        let x = option-there e q (option-at readPatternVariant s at v n g) in
+        o .of (givenFields (x .0)) (h .given (x .0) n (x .2)) ∙ binds-fields (x .0) ∙ ap variantBinds (sym (x .1));
+  }
 
 -- a pattern
 module _ (s : List ℕ) (at : ℕ) {k m : ℕ} {b : Bool} (h : k ≡ afterHead s at) (o : Past s k m) (e : VariantBinds s m b) where
   group-test : (p : Pattern) (n : ℕ) → readPattern s at ≡ ok p n → b ≡ variantBinds (p .variant)
-  group-test p n g =
-      let v = pattern-at s at p n g in
-      let i : k ≡ v .group = h ∙ fields-head 2 s at tt (v .group) (v .opens) in
-      let j : m ≡ v .variant = o .is ∙ ap (afterItem s) i ∙ after-is name-laws s (o .each) (v .group) (p .group) (v .variant) (v .group-is) in
-      e .of (p .variant) n (ap (optional readPatternVariant s) j ∙ v .variant-is)
+  group-test p n g = e .of (p .variant) n (pattern-variant s at p n g h o)
 
   pub group-binds : b ≡ true → ChecksGroup s at (Unfit BindingInFormula)
   unfolding checkPatternGroup unfitOf causeOf pick

@@ -11,15 +11,15 @@ pub mod Settled
 pub mod Depends
 pub mod Agreement
 pub mod EnvLaws
+pub mod EntryLaws
+pub mod PartLaws
 pub mod JudgeLaws
 pub mod AcceptLaws
 pub mod FirstLaws
 pub mod FieldLaws
 pub mod WalkLaws
 pub mod EventLaws
-pub mod FewLaws
 pub mod ArgLaws
-pub mod EntryLaws
 pub mod EmitLaws
 pub mod ClashLaws
 pub mod EqualityLaws

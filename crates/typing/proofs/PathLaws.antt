@@ -1,5 +1,5 @@
 -- What each step of a path's meaning gives, over whatever the code is given.
-use Prim.Native.Nat.{ℕ, _+_, _<_, _≤_}
+use Prim.Native.Nat.{ℕ, _<_, _≤_}
 use mathlib.Core.Path.{_≡_, refl, sym, ap, subst, _∙_}
 use mathlib.Core.Bool.{Bool, true, false}
 use mathlib.Core.List.{List, [], _∷_}
@@ -7,7 +7,7 @@ use mathlib.Core.Option.{Option, none, some}
 use native.Mathlib.Omega.{arith}
 use lib.ListN.{length}
 use borrow.Author.Tests.{lt-ltb, le-ltb}
-use Rattle.reading.specs.Read.{Read, ok, refused, pick}
+use Rattle.reading.specs.Read.{ok, pick}
 use Rattle.reading.specs.Text.{Name}
 use Rattle.reading.specs.Limits.{maxPath}
 use Rattle.reading.specs.Item.{readCount}
@@ -26,8 +26,7 @@ use Rattle.reading.proofs.HeadSound.{Bytes}
 use Rattle.reading.proofs.ExprLaws.{name-laws}
 use Rattle.reading.proofs.ListViews.{list-at, rest-all, turn}
 use Rattle.reading.proofs.Walks.{passed, name-text}
-use Rattle.typing.specs.Types.{ExprType, enum}
-use Rattle.typing.specs.Causes.{is, fails, firstOf}
+use Rattle.typing.specs.Causes.{firstOf}
 use Rattle.typing.specs.Names.{eqName, stateWord, stateEnum}
 use Rattle.typing.specs.Env.{given, stateVariants}
 use Rattle.typing.specs.Typing.{resolveState, orState, resolveName, resolveVariant, resolvePath}

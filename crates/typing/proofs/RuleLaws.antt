@@ -4,7 +4,7 @@ use mathlib.Core.Path.{_≡_, refl, sym, ap, subst, _∙_}
 use mathlib.Core.Bool.{Bool, true, false}
 use mathlib.Core.List.{List, [], _∷_}
 use mathlib.Core.Logic.{_⊎_, inl, inr}
-use mathlib.Core.Option.{none, some}
+use mathlib.Core.Option.{some}
 use native.Mathlib.Omega.{arith}
 use lib.Dec.{eqb, ltb}
 use lib.ListN.{List·getD-eq-default}
@@ -13,7 +13,7 @@ use Rattle.reading.specs.Read.{pick}
 use Rattle.reading.proofs.Rules.{by}
 use Rattle.reading.specs.Skip.{textAt}
 use Rattle.typing.specs.Types.{ExprType, bool, bit, intLit, enum}
-use Rattle.typing.specs.Causes.{Answer, is, fails, negation, unless}
+use Rattle.typing.specs.Causes.{Answer, unless}
 use Rattle.typing.specs.Names.{eqName, stateEnum}
 use Rattle.typing.specs.Rules.{isBool, mustBool, bitsOf, negated, unaryType, bitPair, bitOpType, shiftBy, shiftPair, shiftType, sameType, literalWithBits, literalWithBool, literalAsBool, mismatch, compatibleWith, compareType, logicType, andOrType, binOp, binaryType, plus, minus, star, shl, shr, eq, notEq, lt, le, gt, ge, bitOr, bitXor, bitAnd, logicOr, logicAnd}
 use Rattle.typing.specs.Means.{tyOf, causeOf, typedOf, outcome, unfitOf}

@@ -1,9 +1,8 @@
 -- The settled examples of document 01, proved together: each by computation.
 use mathlib.Core.Path.{refl}
-use mathlib.Core.List.{[]}
 use Rattle.reading.specs.Read.{pick}
 use Rattle.typing.specs.Causes.{number, causeWord, andThen, unless, firstOf}
-use Rattle.typing.specs.Names.{eqName, called, firstCalled}
+use Rattle.typing.specs.Names.{called, firstCalled}
 use Rattle.typing.specs.Rules.{isBool, bitsOf, bitPair, bitOpType, sameType, literalWithBits, literalWithBool, mismatch, compatibleWith, compareType, binOp, binaryType}
 use Rattle.typing.specs.Typing.{typeExpr}
 use Rattle.typing.specs.Patterns.{fits, patternExprCompatible}

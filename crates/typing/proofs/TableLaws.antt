@@ -3,17 +3,17 @@ use Prim.Native.Nat.{ℕ, zero, suc, _+_, _-_, _*_, _/_, _<_, _≤_}
 use mathlib.Core.Path.{_≡_, refl, sym, ap, _∙_}
 use mathlib.Core.Bool.{Bool, true, false}
 use mathlib.Core.List.{List}
-use mathlib.Core.Option.{Option, none, some}
+use mathlib.Core.Option.{some}
 use native.Mathlib.Omega.{arith}
 use native.Mathlib.Numerals.{add-one}
 use lib.ListN.{length, getD, set, length-set}
 use lib.Seq.{sets}
-use borrow.Author.Tests.{eq-eqb, ne-eqb}
+use borrow.Author.Tests.{ne-eqb}
 use Rattle.reading.specs.Read.{Read, ok, refused, pick}
 use Rattle.reading.specs.Limits.{maxU32, maxList}
 use Rattle.reading.specs.Item.{readNumber, readCount, readTag}
 use Rattle.reading.specs.Text.{Name}
-use Rattle.reading.specs.Skip.{skipItems, textAt}
+use Rattle.reading.specs.Skip.{textAt}
 use Rattle.reading.specs.Link.{answer, taggedOf, stands}
 use Rattle.reading.specs.declared.cursor.Cursor.{Cursor}
 use Rattle.reading.specs.declared.fault.Fault.{Fault}
@@ -26,11 +26,12 @@ use Rattle.reading.specs.declared.step.Step.{Step}
 use Rattle.reading.specs.declared.step.Step.the-variants as step
 use Rattle.reading.proofs.Rules.{no}
 use Rattle.reading.proofs.Answers.{num, out}
-use Rattle.reading.proofs.ItemLaws.{number-kind, count-kind}
-use Rattle.typing.specs.Types.{enum}
+use Rattle.reading.proofs.ItemLaws.{number-kind}
 use Rattle.typing.specs.Names.{eqName}
 use Rattle.typing.specs.Means.{tyOf}
 use Rattle.typing.specs.Table.{placeAfter, afterItem, afterHead, pairsFrom, pairsOf, pairsAt, Filled, findFirst, findIn, found, widthType, caseType, exprTypeAt, memberFrom, memberOf, memberAt}
+use Rattle.typing.specs.Entries.{opened}
+use Rattle.typing.specs.declared.entries.Entries.{Entries}
 use Rattle.typing.specs.declared.ty.Ty.{Ty}
 use Rattle.typing.specs.declared.ty.Ty.the-variants as ty
 use Rattle.typing.specs.declared.table.Found.the-variants.{At, Nothing}
@@ -49,6 +50,15 @@ pub tag-out : (m : Read Tag) {r : Tagged} {f : Fault} {p : ℕ} → r ≡ tagged
 unfolding taggedOf
 tag-out (ok a n) e q = no (cc)
 tag-out (refused f p) e q = cc
+
+-- the place after a data enum's head, and after an item
+pub tag-to : (m : Read Tag) {r : Tagged} {t : Tag} {c : Cursor} → r ≡ taggedOf m → r ≡ tagged.Case t c → c .at ≡ placeAfter m
+unfolding placeAfter
+tag-to m e q = rw (tag-was m e q)
+
+pub tag-away : (m : Read Tag) {r : Tagged} {f : Fault} {p : ℕ} → r ≡ taggedOf m → r ≡ tagged.Refused f p → p ≡ placeAfter m
+unfolding placeAfter
+tag-away m e q = rw (tag-out m e q)
 
 pub after-to : (m : Read (Unit {0})) {r : Step} {c : Cursor} → r ≡ stands m → r ≡ step.To c → c .at ≡ placeAfter m
 unfolding stands placeAfter
@@ -87,14 +97,14 @@ find-all s n table = refl
 
 -- a list of names, from place k on
 module _ (s : List ℕ) (at : ℕ) (n : Name) where
-  module _ {a : Answer} (e : a ≡ answer (readCount maxList s at)) where
-    pub names-open : {c : ℕ} {first : Cursor} → a ≡ Got c first → memberFrom c s (first .at) n ≡ memberAt s at n
-    unfolding memberAt memberOf
-    names-open q = rw (num _ e q)
+  opened-names : (m : Read ℕ) → memberFrom (opened m .many) s (opened m .first) n ≡ memberOf s m n
+  unfolding opened memberFrom memberOf
+  opened-names (ok c k) = refl
+  opened-names (refused f p) = refl
 
-    pub names-refused : {f : Fault} {p : ℕ} → a ≡ Refused f p → false ≡ memberAt s at n
-    unfolding memberAt memberOf
-    names-refused q = rw (out _ e q)
+  pub names-open : {e : Entries} → e ≡ opened (readCount maxList s at) → memberFrom (e .many) s (e .first) n ≡ memberAt s at n
+  unfolding memberAt
+  names-open h = ap (λ (z : Entries). memberFrom (z .many) s (z .first) n) h ∙ opened-names (readCount maxList s at)
 
   module _ (k left : ℕ) (r : memberFrom left s k n ≡ memberAt s at n) where
     pub name-none : left ≤ 0 → false ≡ memberAt s at n
@@ -174,20 +184,17 @@ module _ (s : List ℕ) (at : ℕ) (table : List ℕ) where
     pub place : j + 2 * left ≡ length (pairsAt s at)
     pub rest : sets now j (pairsFrom left s k) ≡ sets table 0 (pairsAt s at)
 
-  module _ {a : Answer} (e : a ≡ answer (readCount maxList s at)) where
-    pub fill-refused : {f : Fault} {p : ℕ} → a ≡ Refused f p → Filled table (pairsAt s at) 0 table
-    unfolding pairsAt pairsOf
-    fill-refused q = rw (out _ e q) (record { many = refl; words = refl })
+  opened-pairs : (m : Read ℕ) → pairsOf s m ≡ pairsFrom (opened m .many) s (opened m .first)
+  unfolding opened pairsFrom pairsOf
+  opened-pairs (ok c k) = refl
+  opened-pairs (refused f p) = refl
 
-    pub fill-start : {c : ℕ} {first : Cursor} → a ≡ Got c first → Filling c (first .at) 0 table
-    unfolding pairsAt pairsOf
-    fill-start {c} {first} q =
-        let r = num _ e q in
-        let l = pairs-length c s (first .at) in
-        let m = count-kind s at maxList c (first .at) r in
-        let u : pairsAt s at ≡ pairsFrom c s (first .at) = rw r in
-        let o = m .1 in
-        record { size = refl; few = omega arith; place = let v = sym l ∙ ap length (sym u) in omega arith; rest = ap (sets table 0) (sym u) }
+  pub fill-start : {e : Entries} → e ≡ opened (readCount maxList s at) → e .many ≤ 255 → Filling (e .many) (e .first) 0 table
+  unfolding pairsAt
+  fill-start {e} h o =
+      let l = pairs-length (e .many) s (e .first) in
+      let u : pairsAt s at ≡ pairsFrom (e .many) s (e .first) = opened-pairs (readCount maxList s at) ∙ ap (λ (z : Entries). pairsFrom (z .many) s (z .first)) (sym h) in
+      record { size = refl; few = omega arith; place = let v = sym l ∙ ap length (sym u) in omega arith; rest = ap (sets table 0) (sym u) }
 
   module _ {left k j : ℕ} {now : List ℕ} (g : Filling left k j now) where
     pub fill-done : left ≤ 0 → Filled table (pairsAt s at) j now

@@ -1,13 +1,13 @@
 -- What each step of an expression's typing gives, for whatever reads there.
-use Prim.Native.Nat.{ℕ, zero, suc, _-_}
+use Prim.Native.Nat.{ℕ, suc, _-_}
 use mathlib.Core.Path.{_≡_, refl, sym, ap, subst, _∙_}
 use mathlib.Core.List.{List}
 use native.Mathlib.Omega.{arith}
-use Rattle.reading.specs.Read.{ok, refused}
+use Rattle.reading.specs.Read.{ok}
 use Rattle.reading.specs.Item.{readCase, readTag}
-use Rattle.reading.specs.Expr.{Expr, unary, binary, unaryOps, binOps, readPath, readExpr}
+use Rattle.reading.specs.Expr.{Expr, unaryOps, binOps, readExpr}
 use Rattle.reading.specs.Link.{answer, taggedOf}
-use Rattle.reading.specs.Views.{EnumAt, ExprAt, int-expr, bool-expr, path-expr, unary-expr, binary-expr}
+use Rattle.reading.specs.Views.{ExprAt, int-expr, bool-expr, path-expr, unary-expr, binary-expr}
 use Rattle.reading.specs.declared.cursor.Cursor.{Cursor}
 use Rattle.reading.specs.declared.fault.Fault.{Fault}
 use Rattle.reading.specs.declared.item.Answer.{Answer}
@@ -25,8 +25,8 @@ use Rattle.typing.specs.Causes as causes
 use Rattle.typing.specs.Causes.{Answer as TypeAnswer, is, fails, andThen}
 use Rattle.typing.specs.Rules.{unaryType, binOp, binaryType}
 use Rattle.typing.specs.Env.{Env, Agree}
-use Rattle.typing.specs.Typing.{resolvePath, typeExpr}
-use Rattle.typing.specs.Means.{tyOf, causeOf, Outcome, good, bad, typedOf, outcome}
+use Rattle.typing.specs.Typing.{typeExpr}
+use Rattle.typing.specs.Means.{tyOf, causeOf, good, bad, typedOf, outcome}
 use Rattle.typing.specs.Tells.{Ends}
 use Rattle.typing.specs.Table.{placeAfter, Past}
 use Rattle.typing.specs.Typed.{Resolves, Types, TypesUnary, TypesBinary}

@@ -1,6 +1,6 @@
 -- A walk over a pattern's fields and the declared ones: what is left of both, judged by the names passed, and put after what is bound
 -- already, makes the whole.
-use Prim.Native.Nat.{ℕ, zero, suc, _+_, _*_, _<_, _≤_}
+use Prim.Native.Nat.{ℕ, zero, suc, _+_, _-_, _*_, _<_, _≤_}
 use mathlib.Core.Path.{_≡_, refl, sym, ap, subst, _∙_}
 use mathlib.Core.Bool.{Bool, true, false}
 use mathlib.Core.List.{List, [], _∷_, _++_, append-assoc, append-nil}
@@ -11,31 +11,29 @@ use native.Mathlib.Nat.{add-zero}
 use lib.ListN.{length, set, take, length-append}
 use lib.Seq.{sets, take-take}
 use Rattle.reading.specs.Read.{ok, pick}
-use Rattle.reading.specs.Limits.{maxList}
 use Rattle.reading.specs.Text.{Name}
-use Rattle.reading.specs.Combine.{entries, listOf}
 use Rattle.reading.specs.Decl.{FieldDecl, readFieldDecl}
 use Rattle.reading.specs.Pattern.{PatternField, readPatternField}
 use Rattle.reading.proofs.Rules.{no}
-use Rattle.reading.proofs.ItemLaws.{count-kind}
 use Rattle.reading.proofs.DeclLaws.{field-decl-laws}
 use Rattle.reading.proofs.PatternLaws.{pattern-field-laws}
-use Rattle.reading.proofs.ListViews.{list-at}
 use Rattle.typing.specs.Causes as causes
 use Rattle.typing.specs.Causes.{field, blame}
 use Rattle.typing.specs.Names.{member}
 use Rattle.typing.specs.Env.{Binding}
 use Rattle.typing.specs.Patterns.{patternExprCompatible, Judged, judged, bound, orElse, judgeField, judgeFields}
 use Rattle.typing.specs.Means.{blameOf}
-use Rattle.typing.specs.Table.{placeAfter, afterItem, afterHead, Past}
+use Rattle.typing.specs.Table.{afterItem, Past}
 use Rattle.typing.specs.Blames.{Bound, none-bound, more-bound, Binds, Spares}
-use Rattle.typing.specs.Fields.{fieldNamed, namedFrom, Passed, noMore, JudgesField, countOf, Counted, JudgesFields}
+use Rattle.typing.specs.Entries.{Entered}
+use Rattle.typing.specs.Fields.{fieldNamed, namedFrom, Passed, noMore, JudgesField, JudgesFields}
 use Rattle.typing.specs.declared.cause.Cause.{Cause}
 use Rattle.typing.specs.declared.cause.Within.{Within}
 use Rattle.typing.specs.declared.cause.Blame.{Blame}
 use Rattle.typing.specs.declared.cause.Blame.the-variants.{Nothing, Found}
 use Rattle.typing.specs.declared.cause.Bindings.{Bindings}
-use Rattle.typing.proofs.EnvLaws.{entry, after-is}
+use Rattle.typing.proofs.EnvLaws.{after-is}
+use Rattle.typing.proofs.EntryLaws.{Next, none-left, next, entered-at}
 use Rattle.typing.proofs.FieldLaws.{nameIs, field-named-is}
 
 -- the place after so many items
@@ -146,125 +144,83 @@ joined-none : (a : Judged) → a .fault ≡ none → joined a (judged none) ≡ 
 joined-none a e = λ i. record { bound = append-nil (a .bound) i; fault = sym e i }
 
 -- what is left of both lists; whole is what both make
-pub record Left (s : List ℕ) (k : ℕ) (table : List ℕ) (whole : Judged) (count first i p f j : ℕ) (now : List ℕ) (n m : ℕ) : Type 0 where
+pub record Left (s : List ℕ) (at k : ℕ) (table : List ℕ) (whole : Judged) (left i p f j : ℕ) (now : List ℕ) : Type 0 where
   pub fields : List PatternField
   pub decls : List FieldDecl
   pub seen : List Name
   pub made : Judged
-  pub many : i + length fields ≡ count
-  pub both : length decls ≡ length fields
-  pub reads : entries (length fields) readPatternField s p ≡ ok fields n
-  pub declared : entries (length decls) readFieldDecl s f ≡ ok decls m
-  pub passed : Passed s first i seen
+  pub given : Entered readPatternField s left p fields
+  pub declared : Entered readFieldDecl s left f decls
+  pub passed : Passed s at i seen
   pub so-far : Binds s table k made (record { blame = Nothing; words = j }) now
   pub same : joined made (judgeFields seen decls fields) ≡ whole
 
 -- the field whose turn it is: what it makes by itself, and those after it
-pub record Turn (s : List ℕ) (k : ℕ) (table : List ℕ) (whole : Judged) (count first i p f j : ℕ) (now : List ℕ) (r : Bindings) (now′ : List ℕ) (n m : ℕ) : Type 0 where
-  pub field : PatternField
-  pub decl : FieldDecl
-  pub end : ℕ
-  pub end′ : ℕ
-  pub fields : List PatternField
-  pub decls : List FieldDecl
-  pub seen : List Name
-  pub made : Judged
-  pub many : i + 1 + length fields ≡ count
-  pub both : length decls ≡ length fields
-  pub here : readPatternField s p ≡ ok field end
-  pub there : readFieldDecl s f ≡ ok decl end′
-  pub reads : entries (length fields) readPatternField s end ≡ ok fields n
-  pub declared : entries (length decls) readFieldDecl s end′ ≡ ok decls m
-  pub passed : Passed s first i seen
-  pub so-far : Binds s table k made (record { blame = Nothing; words = j }) now
-  pub own : Binds s now (k + j) (judgeField noMore seen decl field (field .name)) r now′
-  pub same : joined made (judgeField (λ names. judgeFields names decls fields) seen decl field (field .name)) ≡ whole
+pub record Turn (s : List ℕ) (at k : ℕ) (table : List ℕ) (whole : Judged) (left i p f j : ℕ) (now : List ℕ) (r : Bindings) (now′ : List ℕ) (l : Left s at k table whole left i p f j now) : Type 0 where
+  pub field : Next readPatternField s left p (l .fields)
+  pub decl : Next readFieldDecl s left f (l .decls)
+  pub own : Binds s now (k + j) (judgeField noMore (l .seen) (decl .head) (field .head) (field .head .name)) r now′
+  pub same : joined (l .made) (judgeField (λ names. judgeFields names (decl .tail) (field .tail)) (l .seen) (decl .head) (field .head) (field .head .name)) ≡ whole
 
-pub record Walking (s : List ℕ) (at at′ k : ℕ) (table : List ℕ) (count first i p f j : ℕ) (now : List ℕ) : Type 0 where
+pub record Walking (s : List ℕ) (at at′ count k : ℕ) (table : List ℕ) (i p f j : ℕ) (now : List ℕ) : Type 0 where
   pub size : length now ≡ length table
-  pub few : count ≤ maxList
+  pub few : count ≤ 255
   pub upto : i ≤ count
   pub room : j ≤ 2 * i
   pub kept : take k now ≡ take k table
-  pub place : p ≡ stepped s first i
-  pub of : (xs : List PatternField) (n : ℕ) (fs : List FieldDecl) (m : ℕ) → listOf maxList readPatternField s at ≡ ok xs n → listOf maxList readFieldDecl s at′ ≡ ok fs m → length fs ≡ length xs → Left s k table (judgeFields [] fs xs) count first i p f j now n m
+  pub place : p ≡ stepped s at i
+  pub of : (xs : List PatternField) (fs : List FieldDecl) → Entered readPatternField s count at xs → Entered readFieldDecl s count at′ fs → Left s at k table (judgeFields [] fs xs) (count - i) i p f j now
 
-module _ (s : List ℕ) (at at′ k : ℕ) (table : List ℕ) where
-  pub fields-start : {c first f : ℕ} → Counted s at c → first ≡ afterHead s at → f ≡ afterHead s at′ → Walking s at at′ k table c first 0 first f 0 table
-  unfolding stepped countOf placeAfter blameOf
-  fields-start {c} {first} {f} e h g = record {
+module _ (s : List ℕ) (at at′ count k : ℕ) (table : List ℕ) where
+  pub fields-start : count ≤ 255 → Walking s at at′ count k table 0 at at′ 0 table
+  unfolding stepped blameOf
+  fields-start h = let z : count - 0 ≡ count = omega arith in record {
     size = refl;
-    few = e .few;
+    few = h;
     upto = omega arith;
     room = omega arith;
     kept = refl;
     place = refl;
-    of = λ xs n fs m q r z.
-        let l = list-at readPatternField s maxList at xs n q in
-        let d = list-at readFieldDecl s maxList at′ fs m r in
-        let u : length xs ≡ c = sym (e .is ∙ ap countOf (l .opens)) in
-        let v : first ≡ l .first = h ∙ ap placeAfter (count-kind s at maxList (length xs) (l .first) (l .opens) .0) in
-        let w : f ≡ d .first = g ∙ ap placeAfter (count-kind s at′ maxList (length fs) (d .first) (d .opens) .0) in
-        record {
-          fields = xs;
-          decls = fs;
-          seen = [];
-          made = judged none;
-          many = omega arith;
-          both = z;
-          reads = ap (entries (length xs) readPatternField s) v ∙ l .entries-are;
-          declared = ap (entries (length fs) readFieldDecl s) w ∙ d .entries-are;
-          passed = passed-none s first;
-          so-far = record { fault = refl; pairs = []; are = none-bound; many = refl; words = refl };
-          same = refl;
-        };
+    of = λ xs fs q r. record {
+      fields = xs;
+      decls = fs;
+      seen = [];
+      made = judged none;
+      given = rw z q;
+      declared = rw z r;
+      passed = passed-none s at;
+      so-far = record { fault = refl; pairs = []; are = none-bound; many = refl; words = refl };
+      same = refl;
+    };
   }
 
-  module _ {count first i p f j : ℕ} {now : List ℕ} (g : Walking s at at′ k table count first i p f j now) where
-    pub fields-done : count ≤ i → JudgesFields s at at′ table k (record { blame = Nothing; words = j }) now
+  module _ {i p f j : ℕ} {now : List ℕ} (g : Walking s at at′ count k table i p f j now) where
+    pub fields-done : count ≤ i → JudgesFields s at at′ count table k (record { blame = Nothing; words = j }) now
     unfolding judgeFields blameOf
-    fields-done h = record { of = λ xs n fs m q r z. let l = g .of xs n fs m q r z in go (l .decls) (l .fields) (l .seen) (l .many) (l .both) (l .so-far) (l .same) }
-      where
-        go : (fs : List FieldDecl) (xs : List PatternField) (seen : List Name) {made whole : Judged} → i + length xs ≡ count → length fs ≡ length xs → Binds s table k made (record { blame = Nothing; words = j }) now → joined made (judgeFields seen fs xs) ≡ whole → Binds s table k whole (record { blame = Nothing; words = j }) now
-        go [] [] seen {made} u v b e = subst (λ (o : Judged). Binds s table k o (record { blame = Nothing; words = j }) now) (sym (joined-none made (sym (b .fault))) ∙ e) b
-        go [] (x ∷ xs) seen u v b e = absurd (omega arith)
-        go (f ∷ fs) xs seen u v b e = absurd (omega arith)
+    fields-done h = record {
+      of = λ xs fs q r.
+          let l = g .of xs fs q r in
+          let none = none-left (l .decls) (omega arith) (l .declared) in
+          subst (λ (o : Judged). Binds s table k o (record { blame = Nothing; words = j }) now)
+          (sym (joined-none (l .made) (sym (l .so-far .fault))) ∙ (λ i. joined (l .made) (judgeFields (l .seen) (sym none i) (l .fields))) ∙ l .same)
+          (l .so-far);
+    }
 
     pub done-spares : Spares table k (record { blame = Nothing; words = j }) now
     done-spares = record { few = omega (arith, g .few, g .upto, g .room); kept = g .kept }
 
-    module _ (h : i < count) {r : Bindings} {now′ : List ℕ} (o : JudgesField s p f first i now (k + j) r now′) where
-      -- the field whose turn it is, and those after it
-      turn : {whole : Judged} {n m : ℕ} → Left s k table whole count first i p f j now n m → Turn s k table whole count first i p f j now r now′ n m
+    module _ (h : i < count) {r : Bindings} {now′ : List ℕ} (o : JudgesField s p f at i now (k + j) r now′) where
+      turn : {whole : Judged} (l : Left s at k table whole (count - i) i p f j now) → Turn s at k table whole (count - i) i p f j now r now′ l
       unfolding judgeFields
-      turn {whole} {n} {m} l = go (l .decls) (l .fields) (l .many) (l .both) (l .reads) (l .declared) (l .same)
-        where
-          go : (fs : List FieldDecl) (xs : List PatternField) → i + length xs ≡ count → length fs ≡ length xs → entries (length xs) readPatternField s p ≡ ok xs n → entries (length fs) readFieldDecl s f ≡ ok fs m → joined (l .made) (judgeFields (l .seen) fs xs) ≡ whole → Turn s k table whole count first i p f j now r now′ n m
-          go fs [] u v d e z = absurd (omega arith)
-          go [] (x ∷ xs) u v d e z = absurd (omega arith)
-          go (c ∷ fs) (x ∷ xs) u v d e z =
-              let here = entry readPatternField s p x xs n d in
-              let there = entry readFieldDecl s f c fs m e in
-              record {
-                field = x;
-                decl = c;
-                end = here .end;
-                end′ = there .end;
-                fields = xs;
-                decls = fs;
-                seen = l .seen;
-                made = l .made;
-                many = omega arith;
-                both = omega arith;
-                here = here .here;
-                there = there .here;
-                reads = here .rest;
-                declared = there .rest;
-                passed = l .passed;
-                so-far = l .so-far;
-                own = o .of x (here .end) c (there .end) (l .seen) (here .here) (there .here) (l .passed);
-                same = z;
-              }
+      turn l =
+          let x = next (l .fields) (omega arith) (l .given) in
+          let d = next (l .decls) (omega arith) (l .declared) in
+          record {
+            field = x;
+            decl = d;
+            own = o .of (x .head) (x .end) (d .head) (d .end) (l .seen) (x .here) (d .here) (l .passed);
+            same = (λ i. joined (l .made) (judgeFields (l .seen) (sym (d .split) i) (sym (x .split) i))) ∙ l .same;
+          }
 
       turn-keeps : take k now′ ≡ take k table
       turn-keeps =
@@ -274,16 +230,17 @@ module _ (s : List ℕ) (at at′ k : ℕ) (table : List ℕ) where
       pub stop-spares : Spares table k (record { blame = r .blame; words = j + r .words }) now′
       stop-spares = record { few = omega (arith, g .few, g .room, o .few); kept = turn-keeps }
 
-      pub fields-stop : {w : Within} {c : Cause} → r .blame ≡ Found w c → JudgesFields s at at′ table k (record { blame = r .blame; words = j + r .words }) now′
+      pub fields-stop : {w : Within} {c : Cause} → r .blame ≡ Found w c → JudgesFields s at at′ count table k (record { blame = r .blame; words = j + r .words }) now′
       unfolding blameOf
       fields-stop y = record {
-        of = λ xs n fs m q u z.
-            let t = turn (g .of xs n fs m q u z) in
-            let e = own-stops (λ names. judgeFields names (t .decls) (t .fields)) (t .seen) (t .decl) (t .field) (t .field .name) (sym (t .own .fault) ∙ ap (blameOf s) y) in
-            subst (λ (l : Judged). Binds s table k l (record { blame = r .blame; words = j + r .words }) now′) (ap (joined (t .made)) (sym e) ∙ t .same) (binds-join (t .so-far) (t .own));
+        of = λ xs fs q u.
+            let l = g .of xs fs q u in
+            let t = turn l in
+            let e = own-stops (λ names. judgeFields names (t .decl .tail) (t .field .tail)) (l .seen) (t .decl .head) (t .field .head) (t .field .head .name) (sym (t .own .fault) ∙ ap (blameOf s) y) in
+            subst (λ (z : Judged). Binds s table k z (record { blame = r .blame; words = j + r .words }) now′) (ap (joined (l .made)) (sym e) ∙ t .same) (binds-join (l .so-far) (t .own));
       }
 
-      pub fields-more : {p′ f′ : ℕ} → r .blame ≡ Nothing → length now′ ≡ length now → Past s p p′ → Past s f f′ → Walking s at at′ k table count first (i + 1) p′ f′ (j + r .words) now′
+      pub fields-more : {p′ f′ : ℕ} → r .blame ≡ Nothing → length now′ ≡ length now → Past s p p′ → Past s f f′ → Walking s at at′ count k table (i + 1) p′ f′ (j + r .words) now′
       unfolding stepped blameOf
       fields-more y z past past′ = record {
         size = z ∙ g .size;
@@ -291,22 +248,23 @@ module _ (s : List ℕ) (at at′ k : ℕ) (table : List ℕ) where
         upto = omega arith;
         room = let q = g .room in let t = o .few in omega arith;
         kept = turn-keeps;
-        place = past .is ∙ ap (afterItem s) (g .place) ∙ ap (stepped s first) (sym (add-one i));
-        of = λ xs n fs m q u z.
-            let t = turn (g .of xs n fs m q u z) in
-            let own = judgeField noMore (t .seen) (t .decl) (t .field) (t .field .name) in
-            let e = own-goes (λ names. judgeFields names (t .decls) (t .fields)) (t .seen) (t .decl) (t .field) (t .field .name) (sym (t .own .fault) ∙ ap (blameOf s) y) in
+        place = past .is ∙ ap (afterItem s) (g .place) ∙ ap (stepped s at) (sym (add-one i));
+        of = λ xs fs q u.
+            let l = g .of xs fs q u in
+            let t = turn l in
+            let own = judgeField noMore (l .seen) (t .decl .head) (t .field .head) (t .field .head .name) in
+            let rest = judgeFields (grown (l .seen) (t .field .head .name)) (t .decl .tail) (t .field .tail) in
+            let e = own-goes (λ names. judgeFields names (t .decl .tail) (t .field .tail)) (l .seen) (t .decl .head) (t .field .head) (t .field .head .name) (sym (t .own .fault) ∙ ap (blameOf s) y) in
+            let w : count - i - 1 ≡ count - (i + 1) = omega arith in
             record {
-              fields = t .fields;
-              decls = t .decls;
-              seen = grown (t .seen) (t .field .name);
-              made = joined (t .made) own;
-              many = t .many;
-              both = t .both;
-              reads = ap (entries (length (t .fields)) readPatternField s) (past .is ∙ after-is pattern-field-laws s (past .each) p (t .field) (t .end) (t .here)) ∙ t .reads;
-              declared = ap (entries (length (t .decls)) readFieldDecl s) (past′ .is ∙ after-is field-decl-laws s (past′ .each) f (t .decl) (t .end′) (t .there)) ∙ t .declared;
-              passed = passed-more s first i p (t .seen) (t .field) (t .end) (g .place) (t .here) (t .passed);
-              so-far = subst (λ (l : Blame). Binds s table k (joined (t .made) own) (record { blame = l; words = j + r .words }) now′) y (binds-join (t .so-far) (t .own));
-              same = joined-joined (t .made) own (judgeFields (grown (t .seen) (t .field .name)) (t .decls) (t .fields)) ∙ ap (joined (t .made)) (sym e) ∙ t .same;
+              fields = t .field .tail;
+              decls = t .decl .tail;
+              seen = grown (l .seen) (t .field .head .name);
+              made = joined (l .made) own;
+              given = rw (sym w) (entered-at (past .is ∙ after-is pattern-field-laws s (past .each) p (t .field .head) (t .field .end) (t .field .here)) (t .field .rest));
+              declared = rw (sym w) (entered-at (past′ .is ∙ after-is field-decl-laws s (past′ .each) f (t .decl .head) (t .decl .end) (t .decl .here)) (t .decl .rest));
+              passed = passed-more s at i p (l .seen) (t .field .head) (t .field .end) (g .place) (t .field .here) (l .passed);
+              so-far = subst (λ (b : Blame). Binds s table k (joined (l .made) own) (record { blame = b; words = j + r .words }) now′) y (binds-join (l .so-far) (t .own));
+              same = joined-joined (l .made) own rest ∙ ap (joined (l .made)) (sym e) ∙ t .same;
             };
       }

@@ -3,12 +3,11 @@ use Prim.Native.Nat.{ℕ}
 use mathlib.Core.Path.{_≡_}
 use mathlib.Core.List.{List}
 use mathlib.Core.Option.{Option, none, some}
-use lib.ListN.{length}
 use Rattle.reading.specs.Read.{ok}
 use Rattle.reading.specs.Limits.{maxList}
 use Rattle.reading.specs.Text.{Name, readName}
 use Rattle.reading.specs.Expr.{Expr}
-use Rattle.reading.specs.Combine.{entries, listOf, optional}
+use Rattle.reading.specs.Combine.{listOf, optional}
 use Rattle.reading.specs.Decl.{FieldDecl, ConstructorVariant, ConstructorGroup, readFieldDecl, readConstructorVariant, readConstructorGroup}
 use Rattle.reading.specs.Transition.{OutputExpr, readTopExpr}
 use Rattle.reading.specs.Skip.{textAt}
@@ -21,6 +20,7 @@ use Rattle.typing.specs.Patterns.{declaredName}
 use Rattle.typing.specs.Outputs.{argCause, judgeArgs, variantName, judgeOutputVariant, judgeOutput}
 use Rattle.typing.specs.Means.{blameOf}
 use Rattle.typing.specs.Accepts.{nameFound}
+use Rattle.typing.specs.Entries.{Entered}
 use Rattle.typing.specs.declared.cause.Blame.{Blame}
 use Rattle.typing.specs.declared.table.Found.{Found}
 
@@ -29,7 +29,7 @@ pub record JudgesArg (env : Env) (s : List ℕ) (at field : ℕ) (r : Blame) : T
   pub of : (e : Expr) (n : ℕ) (f : FieldDecl) (m : ℕ) → readTopExpr s at ≡ ok e n → readFieldDecl s field ≡ ok f m → blameOf s r ≡ blame (arg (f .name)) (argCause (typeExpr env e) (typeToExprType (f .ty)))
 
 pub record JudgesArgs (env : Env) (s : List ℕ) (at fields count : ℕ) (r : Blame) : Type 0 where
-  pub of : (es : List Expr) (n : ℕ) (fs : List FieldDecl) (m : ℕ) → length es ≡ count → length fs ≡ count → entries (length es) readTopExpr s at ≡ ok es n → entries (length fs) readFieldDecl s fields ≡ ok fs m → blameOf s r ≡ judgeArgs env es fs
+  pub of : (es : List Expr) (fs : List FieldDecl) → Entered readTopExpr s count at es → Entered readFieldDecl s count fields fs → blameOf s r ≡ judgeArgs env es fs
 
 -- the name of a list's only variant, and the one given or that
 pub record OnlyVariant (s : List ℕ) (at : ℕ) (r : Found) : Type 0 where

@@ -1,6 +1,6 @@
 -- What names mean in a place: the environment, as lookup functions.
 use mathlib.Core.Path.{_≡_}
-use mathlib.Core.List.{List, []}
+use mathlib.Core.List.{List}
 use mathlib.Core.Bool.{Bool, true, false}
 use mathlib.Core.Option.{Option, none, some}
 use Rattle.reading.specs.Text.{Name}

@@ -2,18 +2,14 @@
 use Prim.Native.Nat.{ℕ}
 use mathlib.Core.Path.{_≡_}
 use mathlib.Core.List.{List}
-use mathlib.Core.Bool.{Bool, false}
 use mathlib.Core.Option.{some}
-use lib.Dec.{eqb}
-use Rattle.reading.specs.Read.{Read, ok, refused}
-use Rattle.reading.specs.Item.{readTag}
+use Rattle.reading.specs.Read.{ok}
 use Rattle.reading.specs.Text.{Name}
 use Rattle.reading.specs.Decl.{FieldDecl, ConstructorVariant, ConstructorGroup, readConstructorVariant, readConstructorGroup}
 use Rattle.reading.specs.Decl as decl
 use Rattle.reading.specs.Pattern.{PatternField, PatternVariant, readPatternVariant}
 use Rattle.reading.specs.Pattern as pattern
 use Rattle.reading.specs.Skip.{textAt}
-use Rattle.reading.specs.declared.item.Tag.{Tag}
 use Rattle.typing.specs.Patterns.{judgeVariant, judgeGroup}
 use Rattle.typing.specs.Blames.{Binds}
 use Rattle.typing.specs.declared.cause.Cause.{Cause}
@@ -24,14 +20,6 @@ use Rattle.typing.specs.declared.cause.Bindings.{Bindings}
 -- nothing is bound, for that cause
 abbrev pub blamed : Cause → Bindings
 blamed c = record { blame = Found Alone c; words = 0 }
-
--- whether a variant has fields: its case is 1
-unfoldable pub structOf : Read Tag → Bool
-structOf (ok t n) = eqb (t .case) 1
-structOf (refused f p) = false
-
-abbrev pub structAt : List ℕ → ℕ → Bool
-structAt s at = structOf (readTag s at)
 
 -- the pattern's variant at a place, of the declared variant at another: where both have fields, and any two
 pub record JudgesStruct (s : List ℕ) (at declared : ℕ) (table : List ℕ) (k : ℕ) (r : Bindings) (table′ : List ℕ) : Type 0 where

@@ -4,13 +4,10 @@ use mathlib.Core.Path.{_≡_}
 use mathlib.Core.List.{List, []}
 use mathlib.Core.Bool.{Bool, true, false}
 use mathlib.Core.Option.{Option, none, some}
-use lib.ListN.{length, getD, take}
+use lib.ListN.{getD, take}
 use lib.Dec.{eqb}
-use Rattle.reading.specs.Read.{Read, ok, refused, pick}
-use Rattle.reading.specs.Limits.{maxList}
-use Rattle.reading.specs.Item.{readCount}
+use Rattle.reading.specs.Read.{ok, pick}
 use Rattle.reading.specs.Text.{Name}
-use Rattle.reading.specs.Combine.{listOf}
 use Rattle.reading.specs.Decl.{FieldDecl, readFieldDecl}
 use Rattle.reading.specs.Pattern.{PatternField, readPatternField}
 use Rattle.reading.specs.Skip.{textAt}
@@ -19,6 +16,7 @@ use Rattle.typing.specs.Names.{eqName, member}
 use Rattle.typing.specs.Patterns.{patternExprCompatible, Judged, judged, judgeField, judgeFields}
 use Rattle.typing.specs.Means.{blameOf}
 use Rattle.typing.specs.Table.{afterItem, afterHead}
+use Rattle.typing.specs.Entries.{Entered}
 use Rattle.typing.specs.Blames.{Binds}
 use Rattle.typing.specs.declared.cause.Blame.{Blame}
 use Rattle.typing.specs.declared.cause.Bindings.{Bindings}
@@ -69,15 +67,6 @@ pub record JudgesField (s : List ℕ) (at decl first i : ℕ) (table : List ℕ)
   pub kept : take w table′ ≡ take w table
   pub of : (x : PatternField) (n : ℕ) (f : FieldDecl) (m : ℕ) (seen : List Name) → readPatternField s at ≡ ok x n → readFieldDecl s decl ≡ ok f m → Passed s first i seen → Binds s table w (judgeField noMore seen f x (x .name)) r table′
 
--- how many entries the list at a place has
-unfoldable pub countOf : Read ℕ → ℕ
-countOf (ok c n) = c
-countOf (refused f p) = 0
-
-pub record Counted (s : List ℕ) (at r : ℕ) : Type 0 where
-  pub is : r ≡ countOf (readCount maxList s at)
-  pub few : r ≤ maxList
-
--- two lists of as many fields
-pub record JudgesFields (s : List ℕ) (at decls : ℕ) (table : List ℕ) (k : ℕ) (r : Bindings) (table′ : List ℕ) : Type 0 where
-  pub of : (xs : List PatternField) (n : ℕ) (fs : List FieldDecl) (m : ℕ) → listOf maxList readPatternField s at ≡ ok xs n → listOf maxList readFieldDecl s decls ≡ ok fs m → length fs ≡ length xs → Binds s table k (judgeFields [] fs xs) r table′
+-- so many fields from a place on, and as many declared ones from another
+pub record JudgesFields (s : List ℕ) (at decls count : ℕ) (table : List ℕ) (k : ℕ) (r : Bindings) (table′ : List ℕ) : Type 0 where
+  pub of : (xs : List PatternField) (fs : List FieldDecl) → Entered readPatternField s count at xs → Entered readFieldDecl s count decls fs → Binds s table k (judgeFields [] fs xs) r table′

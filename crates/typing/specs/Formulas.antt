@@ -1,11 +1,9 @@
 -- Formulas: what is wrong with one, and its bounds.
-use Prim.Native.Nat.{ℕ}
 use mathlib.Core.List.{List, [], _∷_}
 use mathlib.Core.Bool.{Bool, true, false}
 use mathlib.Core.Option.{Option, none, some}
 use lib.Dec.{ltb}
 use Rattle.reading.specs.Read.{pick}
-use Rattle.reading.specs.Text.{Name}
 use Rattle.reading.specs.Pattern.{PatternField, PatternVariant, Pattern}
 use Rattle.reading.specs.Pattern as pattern
 use Rattle.reading.specs.Formula.{Formula}

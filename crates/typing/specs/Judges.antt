@@ -5,24 +5,25 @@ use mathlib.Core.List.{List}
 use mathlib.Core.Bool.{Bool}
 use mathlib.Core.Option.{Option}
 use Rattle.reading.specs.Read.{ok}
-use Rattle.reading.specs.Limits.{maxU64, maxList}
+use Rattle.reading.specs.Limits.{maxU64}
 use Rattle.reading.specs.Item.{readNumber}
 use Rattle.reading.specs.Expr.{Expr, readExpr}
-use Rattle.reading.specs.Combine.{listOf, optional}
+use Rattle.reading.specs.Combine.{optional}
 use Rattle.reading.specs.Pattern.{PatternField, PatternVariant, Pattern, readPatternField, readPatternVariant, readPattern}
 use Rattle.reading.specs.Formula.{Formula, expr, readFormula}
 use Rattle.typing.specs.Causes.{firstOf}
 use Rattle.typing.specs.Env.{Env, given}
 use Rattle.typing.specs.Formulas.{fieldsBind, variantBinds, checkPatternGroup, typeFormula}
 use Rattle.typing.specs.Means.{unfitOf}
+use Rattle.typing.specs.Entries.{Entered}
 use Rattle.typing.specs.declared.rules.Fit.{Fit}
 
--- whether a field of a pattern has a name, whether one of a list has, and whether one of a variant has
+-- whether a field of a pattern has a name, whether one of so many from a place on has, and whether one of a variant has
 pub record FieldBinds (s : List ℕ) (at : ℕ) (r : Bool) : Type 0 where
   pub of : (p : PatternField) (n : ℕ) → readPatternField s at ≡ ok p n → r ≡ given (p .name)
 
-pub record FieldsBind (s : List ℕ) (at : ℕ) (r : Bool) : Type 0 where
-  pub of : (ps : List PatternField) (n : ℕ) → listOf maxList readPatternField s at ≡ ok ps n → r ≡ fieldsBind ps
+pub record FieldsBind (s : List ℕ) (at count : ℕ) (r : Bool) : Type 0 where
+  pub of : (ps : List PatternField) → Entered readPatternField s count at ps → r ≡ fieldsBind ps
 
 pub record VariantBinds (s : List ℕ) (at : ℕ) (r : Bool) : Type 0 where
   pub of : (v : Option PatternVariant) (n : ℕ) → optional readPatternVariant s at ≡ ok v n → r ≡ variantBinds v

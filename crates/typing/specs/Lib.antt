@@ -16,11 +16,11 @@ pub mod Tells
 pub mod Table
 pub mod Typed
 pub mod Shape
+pub mod Entries
 pub mod Judges
 pub mod Accepts
 pub mod First
 pub mod Arguments
-pub mod Entries
 pub mod Emits
 pub mod Blames
 pub mod Fields

@@ -1,5 +1,4 @@
 -- Outputs: what is wrong with what is emitted.
-use Prim.Native.Nat.{ℕ}
 use mathlib.Core.List.{List, [], _∷_}
 use mathlib.Core.Option.{Option, none, some}
 use lib.ListN.{length}

@@ -1,7 +1,7 @@
 -- Event patterns: what is wrong with one, and the bindings it makes, also those before a fault.
 use Prim.Native.Nat.{ℕ, _^_}
 use mathlib.Core.List.{List, [], _∷_}
-use mathlib.Core.Bool.{Bool, true, false}
+use mathlib.Core.Bool.{Bool, false}
 use mathlib.Core.Option.{Option, none, some}
 use lib.ListN.{length}
 use lib.Dec.{eqb, ltb}
@@ -12,7 +12,7 @@ use Rattle.reading.specs.Decl as decl
 use Rattle.reading.specs.Pattern.{PatternExpr, PatternField, PatternVariant, Pattern}
 use Rattle.reading.specs.Pattern as pattern
 use Rattle.typing.specs.Types.{typeToExprType}
-use Rattle.typing.specs.Causes.{Cause, unknownEventGroup, unknownEventVariant, fieldCount, duplicateBinding, unitWithFields, fieldsWithout, doesNotFit, integerOnBool, integerOnEnum, booleanLiteral, variantPath, variantOnNonEnum, Within, alone, field, Blame, blame}
+use Rattle.typing.specs.Causes.{Cause, unknownEventGroup, unknownEventVariant, fieldCount, duplicateBinding, unitWithFields, fieldsWithout, doesNotFit, integerOnBool, integerOnEnum, booleanLiteral, variantPath, variantOnNonEnum, alone, field, Blame, blame}
 use Rattle.typing.specs.Names.{eqName, member, firstCalled}
 use Rattle.typing.specs.Env.{Binding}
 

@@ -1,9 +1,9 @@
 -- The settled examples of document 01, (1) to (14).
 use Prim.Native.Nat.{ℕ}
 use mathlib.Core.Path.{_≡_}
-use mathlib.Core.List.{List, [], _∷_}
-use mathlib.Core.Bool.{Bool, true, false}
-use mathlib.Core.Option.{Option, none, some}
+use mathlib.Core.List.{[], _∷_}
+use mathlib.Core.Bool.{true, false}
+use mathlib.Core.Option.{some}
 use Rattle.reading.specs.Text.{Name}
 use Rattle.reading.specs.Limits.{maxU64}
 use Rattle.reading.specs.Expr.{Expr, int, path, binary}

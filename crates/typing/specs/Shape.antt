@@ -7,7 +7,7 @@ use lib.ListN.{getD}
 use Rattle.reading.specs.Read.{ok, pick}
 use Rattle.reading.specs.Limits.{maxU64}
 use Rattle.reading.specs.Item.{readNumber}
-use Rattle.reading.specs.Formula.{Formula, boundedAlways, boundedEventually, readFormula}
+use Rattle.reading.specs.Formula.{Formula, boundedAlways, readFormula}
 use Rattle.typing.specs.Formulas.{boundedAlwaysError}
 use Rattle.typing.specs.declared.formula.Kind.{Kind}
 use Rattle.typing.specs.declared.formula.Kind.the-variants.{Input, Output, Expression, One, Always, Sometime, Two, Unknown}

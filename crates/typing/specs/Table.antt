@@ -15,7 +15,7 @@ use Rattle.reading.specs.Text.{Name}
 use Rattle.reading.specs.Skip.{skipItems, textAt}
 use Rattle.reading.specs.declared.item.Tag.{Tag}
 use Rattle.typing.specs.Types.{ExprType, bool, bit, enum}
-use Rattle.typing.specs.Names.{eqName, stateEnum}
+use Rattle.typing.specs.Names.{eqName}
 use Rattle.typing.specs.Env.{Env, given}
 use Rattle.typing.specs.declared.table.Found.{Found}
 use Rattle.typing.specs.declared.table.Found.the-variants.{At, Nothing}

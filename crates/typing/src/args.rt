@@ -2,6 +2,7 @@
 use crate::cause::Blame;
 use crate::cause::Within;
 use crate::fill::after_head;
+use crate::fill::second;
 use crate::output::arg_compatible;
 use crate::rules::Fit;
 use crate::table::after;
@@ -19,7 +20,7 @@ pub(crate) fn judge_arg<'a>(
     ensures { λ r. ⌜ JudgesArg (envAt (now (doc .entry)) (now (names .entry)) (now (enums .entry))) (now (doc .entry)) at field r ⌝ }
 {
     let name = after_head(doc, field);
-    let ty = after(doc, name);
+    let ty = second(doc, field);
     let f = arg_compatible(doc, at, ty, names, enums);
     match f {
         Fit::Fine => Blame::Nothing,

@@ -1,11 +1,9 @@
 // Patterns in formulas: whether one binds a name.
 use crate::cause::Cause;
+use crate::entries::fields_at;
 use crate::fill::after_head;
 use crate::rules::Fit;
 use crate::table::after;
-use reading::Answer;
-use reading::Cursor;
-use reading::Tagged;
 ghost use mathlib.Core.Path.{_≡_};
 ghost use lib.ListN.{getD};
 ghost use lib.Dec.{eqb};
@@ -32,17 +30,12 @@ pub(crate) fn field_binds(doc: &[u8], at: usize) -> bool
     true
 }
 
-// Whether one of the list at a place has.
-pub(crate) fn fields_bind(doc: &[u8], at: usize) -> bool
-    ensures { λ r. ⌜ FieldsBind (now (doc .entry)) at r ⌝ }
+// Whether one of so many from a place on has.
+pub(crate) fn fields_bind(doc: &[u8], at: usize, fields: u64) -> bool
+    ensures { λ r. ⌜ FieldsBind (now (doc .entry)) at fields r ⌝ }
 {
-    let c = Cursor { at };
-    let r = c.count(doc, 255);
-    let Answer::Got(count, first) = r else {
-        return false;
-    };
-    let mut k = first.at;
-    let mut left = count;
+    let mut k = at;
+    let mut left = fields;
     while 0 < left {
         if field_binds(doc, k) {
             return true;
@@ -60,18 +53,8 @@ pub(crate) fn variant_binds(doc: &[u8], at: usize) -> bool
     if null_at(doc, at) {
         return false;
     }
-    let c = Cursor { at };
-    let t = c.tag(doc);
-    let Tagged::Case(tag, fields) = t else {
-        return false;
-    };
-    let case = tag.case;
-    let name = fields.at;
-    match case {
-        0 => false,
-        1 => fields_bind(doc, after(doc, name)),
-        2..=u64::MAX => false,
-    }
+    let e = fields_at(doc, at);
+    fields_bind(doc, e.first, e.many)
 }
 
 // What is wrong with the pattern at a place in a formula, if anything.

@@ -4,22 +4,20 @@ use crate::cause::Bindings;
 use crate::cause::Blame;
 use crate::cause::Cause;
 use crate::cause::Within;
-use crate::field::count_at;
+use crate::entries::fields_at;
+use crate::entries::has_case;
 use crate::field::judge_fields;
-use crate::field::second;
 use crate::fill::after_head;
 use crate::fill::after_tag;
+use crate::fill::second;
 use crate::first::first_record;
 use crate::first::first_variant;
 use crate::table::Found;
 use crate::table::after;
-use reading::Cursor;
-use reading::Tagged;
 use reading::text_at;
 ghost use mathlib.Core.Path.{_≡_};
-ghost use Rattle.typing.specs.Table.{afterTag, Past};
 ghost use Rattle.typing.specs.Blames.{Spares, JudgesPattern};
-ghost use Rattle.typing.specs.Event.{blamed, structAt, JudgesStruct, JudgesVariant, JudgesGroup};
+ghost use Rattle.typing.specs.Event.{blamed, JudgesStruct, JudgesVariant, JudgesGroup};
 
 // Nothing is bound, for that cause.
 fn alone(cause: Cause) -> Bindings
@@ -31,25 +29,6 @@ fn alone(cause: Cause) -> Bindings
     }
 }
 
-// Whether the variant at a place has fields.
-fn is_struct(doc: &[u8], at: usize) -> bool
-    ensures { λ r. ⌜ r ≡ structAt (now (doc .entry)) at ⌝ }
-{
-    let c = Cursor { at };
-    let t = c.tag(doc);
-    match t {
-        Tagged::Case(tag, _) => tag.case == 1,
-        Tagged::Refused(_, _) => false,
-    }
-}
-
-// The place of the fields of the variant at a place, after its name.
-fn fields_at(doc: &[u8], at: usize) -> usize
-    ensures { λ r. ⌜ Past (now (doc .entry)) (afterTag (now (doc .entry)) at) r ⌝ }
-{
-    after(doc, after_tag(doc, at))
-}
-
 // The pattern's variant at a place, of the declared variant at another; both have fields.
 fn judge_struct(doc: &[u8], at: usize, declared: usize, table: &mut [usize], k: usize) -> Bindings
     ensures { λ r. ⌜ JudgesStruct (now (doc .entry)) at declared (now (table .entry)) k r (now (table .exit)) ⌝ }
@@ -57,12 +36,12 @@ fn judge_struct(doc: &[u8], at: usize, declared: usize, table: &mut [usize], k: 
 {
     let given = fields_at(doc, at);
     let due = fields_at(doc, declared);
-    let m = count_at(doc, due);
-    let n = count_at(doc, given);
+    let m = due.many;
+    let n = given.many;
     if m != n {
         return alone(Cause::FieldCount(after_tag(doc, at), m, n));
     }
-    judge_fields(doc, given, due, table, k)
+    judge_fields(doc, given.first, due.first, n as u8, table, k)
 }
 
 // The same for any two variants.
@@ -70,8 +49,8 @@ fn judge_variant(doc: &[u8], at: usize, declared: usize, table: &mut [usize], k:
     ensures { λ r. ⌜ JudgesVariant (now (doc .entry)) at declared (now (table .entry)) k r (now (table .exit)) ⌝ }
     ensures { λ r. ⌜ Spares (now (table .entry)) k r (now (table .exit)) ⌝ }
 {
-    let due = is_struct(doc, declared);
-    if is_struct(doc, at) {
+    let due = has_case(doc, declared, 1);
+    if has_case(doc, at, 1) {
         if due {
             return judge_struct(doc, at, declared, table, k);
         }

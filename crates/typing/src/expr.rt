@@ -9,7 +9,6 @@ use crate::ty::Ty;
 use reading::Answer;
 use reading::Cursor;
 use reading::Tagged;
-ghost use mathlib.Core.Path.{_≡_};
 ghost use Rattle.reading.specs.Expr.{readExpr};
 ghost use Rattle.typing.specs.Tells.{Ends};
 ghost use Rattle.typing.specs.Table.{envAt};

@@ -5,20 +5,18 @@ use crate::cause::Blame;
 use crate::cause::Cause;
 use crate::cause::Within;
 use crate::fill::after_head;
+use crate::fill::second;
 use crate::fill::store;
 use crate::names::same;
 use crate::pattern::pattern_expr_compatible;
 use crate::rules::Fit;
 use crate::table::after;
-use reading::Answer;
-use reading::Cursor;
 use reading::text_at;
 ghost use Prim.Native.Nat.{_+_};
 ghost use mathlib.Core.Path.{_≡_};
 ghost use lib.ListN.{set};
-ghost use Rattle.typing.specs.Table.{afterHead, Past};
 ghost use Rattle.typing.specs.Blames.{Spares};
-ghost use Rattle.typing.specs.Fields.{fieldNamed, namedFrom, Counted, NamesField, FitsField, JudgesField, JudgesFields};
+ghost use Rattle.typing.specs.Fields.{fieldNamed, namedFrom, NamesField, FitsField, JudgesField, JudgesFields};
 
 // The name of a pattern's field, by its place: none, one that an earlier field has, or a new one.
 pub enum Naming {
@@ -39,7 +37,7 @@ fn field_named<'a>(doc: &'a [u8], at: usize, name: &'a [u8]) -> bool
 }
 
 // Whether one of so many from a place on has.
-fn named_from<'a>(doc: &'a [u8], at: usize, fields: u64, name: &'a [u8]) -> bool
+fn named_from<'a>(doc: &'a [u8], at: usize, fields: u8, name: &'a [u8]) -> bool
     ensures { λ r. ⌜ r ≡ namedFrom fields (now (doc .entry)) at (now (name .entry)) ⌝ }
 {
     let mut k = at;
@@ -55,7 +53,7 @@ fn named_from<'a>(doc: &'a [u8], at: usize, fields: u64, name: &'a [u8]) -> bool
 }
 
 // The name of the field at a place, by the fields before it: so many from the first on.
-fn field_name(doc: &[u8], at: usize, first: usize, passed: u64) -> Naming
+fn field_name(doc: &[u8], at: usize, first: usize, passed: u8) -> Naming
     ensures { λ r. ⌜ NamesField (now (doc .entry)) at first passed r ⌝ }
 {
     let name = after_head(doc, at);
@@ -66,13 +64,6 @@ fn field_name(doc: &[u8], at: usize, first: usize, passed: u64) -> Naming
         return Naming::Again(name);
     }
     Naming::Fresh(name)
-}
-
-// The place of what follows the first field of the record at a place.
-pub(crate) fn second(doc: &[u8], at: usize) -> usize
-    ensures { λ r. ⌜ Past (now (doc .entry)) (afterHead (now (doc .entry)) at) r ⌝ }
-{
-    after(doc, after_head(doc, at))
 }
 
 // What is wrong with the pattern of a field at a place, of the declared field at another, if anything.
@@ -108,7 +99,7 @@ fn judge_field(
     at: usize,
     field: usize,
     first: usize,
-    passed: u64,
+    passed: u8,
     table: &mut [usize],
     k: usize,
     j: usize,
@@ -135,37 +126,24 @@ fn judge_field(
     }
 }
 
-// How many entries the list at a place has; none where no list stands there.
-pub(crate) fn count_at(doc: &[u8], at: usize) -> u64
-    ensures { λ r. ⌜ Counted (now (doc .entry)) at r ⌝ }
-{
-    let c = Cursor { at };
-    let r = c.count(doc, 255);
-    match r {
-        Answer::Got(count, _) => count,
-        Answer::Refused(_, _) => 0,
-    }
-}
-
-// The fields of the list at a place, of the declared fields at another, as many.
+// The fields from a place on, of the declared fields from another, so many of both.
 pub(crate) fn judge_fields(
     doc: &[u8],
     at: usize,
     fields: usize,
+    count: u8,
     table: &mut [usize],
     k: usize,
 ) -> Bindings
-    ensures { λ r. ⌜ JudgesFields (now (doc .entry)) at fields (now (table .entry)) k r (now (table .exit)) ⌝ }
+    ensures { λ r. ⌜ JudgesFields (now (doc .entry)) at fields count (now (table .entry)) k r (now (table .exit)) ⌝ }
     ensures { λ r. ⌜ Spares (now (table .entry)) k r (now (table .exit)) ⌝ }
 {
-    let count = count_at(doc, at);
-    let first = after_head(doc, at);
-    let mut p = first;
-    let mut f = after_head(doc, fields);
-    let mut i: u64 = 0;
+    let mut p = at;
+    let mut f = fields;
+    let mut i: u8 = 0;
     let mut j: usize = 0;
     while i < count {
-        let r = judge_field(doc, p, f, first, i, table, k, j);
+        let r = judge_field(doc, p, f, at, i, table, k, j);
         j += r.words;
         let blame = r.blame;
         let Blame::Nothing = blame else {

@@ -1,14 +1,13 @@
 // Filling a table from a list of records: each one's name and what follows the name.
+use crate::entries::entries_at;
 use crate::table::after;
 use reading::Answer;
 use reading::Cursor;
 use reading::Tagged;
 ghost use mathlib.Core.Path.{_≡_};
 ghost use Prim.Native.Nat.{_≤_};
-ghost use mathlib.Core.List.{[], _∷_};
 ghost use lib.ListN.{set};
-ghost use lib.Seq.{sets};
-ghost use Rattle.typing.specs.Table.{afterHead, afterTag, pairsAt, Filled};
+ghost use Rattle.typing.specs.Table.{afterHead, afterTag, Past, pairsAt, Filled};
 
 // Puts a place into the table, where it has such a word.
 pub fn store(table: &mut [usize], j: usize, place: usize)
@@ -31,19 +30,22 @@ pub fn after_head(doc: &[u8], at: usize) -> usize
     }
 }
 
+// The place of what follows the first field of the record at a place.
+pub(crate) fn second(doc: &[u8], at: usize) -> usize
+    ensures { λ r. ⌜ Past (now (doc .entry)) (afterHead (now (doc .entry)) at) r ⌝ }
+{
+    after(doc, after_head(doc, at))
+}
+
 // Fills the table from the list of records at a place; how many words it takes.
 pub fn fill_table(doc: &[u8], at: usize, table: &mut [usize]) -> usize
     ensures { λ r. ⌜ Filled (now (table .entry)) (pairsAt (now (doc .entry)) at) r (now (table .exit)) ⌝ }
     ensures { λ r. ⌜ r ≤ 510 ⌝ }
 {
-    let c = Cursor { at };
-    let r = c.count(doc, 255);
-    let Answer::Got(count, first) = r else {
-        return 0;
-    };
-    let mut k = first.at;
+    let e = entries_at(doc, at);
+    let mut k = e.first;
     let mut j: usize = 0;
-    let mut left = count;
+    let mut left = e.many;
     while 0 < left {
         let name = after_head(doc, k);
         store(table, j, name);

@@ -1,11 +1,10 @@
 // The first group, enum or variant of a name.
+use crate::entries::entries_at;
 use crate::fill::after_head;
 use crate::fill::after_tag;
 use crate::names::same;
 use crate::table::Found;
 use crate::table::after;
-use reading::Answer;
-use reading::Cursor;
 use reading::text_at;
 ghost use Rattle.typing.specs.First.{FirstGroup, FirstEnum, FirstVariant};
 
@@ -14,13 +13,9 @@ pub fn first_record<'a>(doc: &'a [u8], at: usize, name: &'a [u8]) -> Found
     ensures { λ r. ⌜ FirstGroup (now (doc .entry)) at (now (name .entry)) r ⌝ }
     ensures { λ r. ⌜ FirstEnum (now (doc .entry)) at (now (name .entry)) r ⌝ }
 {
-    let c = Cursor { at };
-    let r = c.count(doc, 255);
-    let Answer::Got(count, first) = r else {
-        return Found::Nothing;
-    };
-    let mut k = first.at;
-    let mut left = count;
+    let e = entries_at(doc, at);
+    let mut k = e.first;
+    let mut left = e.many;
     while 0 < left {
         let key = after_head(doc, k);
         if same(text_at(doc, key), name) {
@@ -36,13 +31,9 @@ pub fn first_record<'a>(doc: &'a [u8], at: usize, name: &'a [u8]) -> Found
 pub fn first_variant<'a>(doc: &'a [u8], at: usize, name: &'a [u8]) -> Found
     ensures { λ r. ⌜ FirstVariant (now (doc .entry)) at (now (name .entry)) r ⌝ }
 {
-    let c = Cursor { at };
-    let r = c.count(doc, 255);
-    let Answer::Got(count, first) = r else {
-        return Found::Nothing;
-    };
-    let mut k = first.at;
-    let mut left = count;
+    let e = entries_at(doc, at);
+    let mut k = e.first;
+    let mut left = e.many;
     while 0 < left {
         let key = after_tag(doc, k);
         if same(text_at(doc, key), name) {

@@ -1,12 +1,13 @@
 // Guards that can't hold.
+use crate::entries::has_case;
 use crate::equality::Conjunct;
 use crate::equality::Equality;
 use crate::equality::conjunct_at;
 use crate::equality::first_equality;
 use crate::expr::after_expr;
+use crate::fill::after_tag;
 use reading::Answer;
 use reading::Cursor;
-use reading::Tagged;
 use reading::text_at;
 ghost use Rattle.typing.specs.Holds.{LiteralFalse, Contradicts};
 ghost use Rattle.typing.specs.Equalities.{FalseAt, ClashOf, FirstClash, ClashOfTwo};
@@ -33,15 +34,10 @@ pub(crate) fn false_at(doc: &[u8], at: usize) -> bool
 pub fn is_literal_false(doc: &[u8], at: usize, depth: u64) -> bool
     ensures { λ r. ⌜ LiteralFalse depth (now (doc .entry)) at r ⌝ }
 {
-    let c = Cursor { at };
-    let t = c.tag(doc);
-    let Tagged::Case(tag, fields) = t else {
-        return false;
-    };
-    if tag.case != 1 {
-        return false;
+    if has_case(doc, at, 1) {
+        return false_at(doc, after_tag(doc, at));
     }
-    false_at(doc, fields.at)
+    false
 }
 
 // The clash of an equality with the first of its name in the expression at a place.

@@ -10,6 +10,7 @@ use crate::entries::fields_at;
 use crate::expr::type_expr;
 use crate::fill::after_head;
 use crate::fill::after_tag;
+use crate::fill::second;
 use crate::first::first_record;
 use crate::first::first_variant;
 use crate::rules::Fit;
@@ -113,8 +114,7 @@ pub(crate) fn judge_output<'a>(
 {
     let variant = after(doc, group);
     let args = after(doc, variant);
-    let declared = after_head(doc, decl);
-    let variants = after(doc, declared);
+    let variants = second(doc, decl);
     let f = variant_name(doc, variant, variants);
     let Found::At(name) = f else {
         return Blame::Found(Within::Alone, Cause::BareOutput(group));

@@ -1,4 +1,5 @@
 // Tables of places, made once for a module: names and what is declared under each, as pairs of places.
+use crate::entries::entries_at;
 use crate::names::same;
 use crate::ty::Ty;
 use reading::Answer;
@@ -79,13 +80,9 @@ pub(crate) fn ty_at(doc: &[u8], at: usize) -> Ty
 pub fn has_name<'a>(doc: &'a [u8], at: usize, name: &'a [u8]) -> bool
     ensures { λ r. ⌜ r ≡ memberAt (now (doc .entry)) at (now (name .entry)) ⌝ }
 {
-    let c = Cursor { at };
-    let r = c.count(doc, 255);
-    let Answer::Got(count, first) = r else {
-        return false;
-    };
-    let mut k = first.at;
-    let mut left = count;
+    let e = entries_at(doc, at);
+    let mut k = e.first;
+    let mut left = e.many;
     while 0 < left {
         if same(text_at(doc, k), name) {
             return true;

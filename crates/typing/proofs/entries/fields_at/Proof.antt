@@ -1,6 +1,7 @@
--- By the case that stands there.
-use Rattle.typing.proofs.EntryLaws.{fields-none, fields-unit, fields-struct}
+-- By whether it has fields.
+use native.Mathlib.Omega.{arith}
 use borrow.Author.Needs.{needs}
+use Rattle.typing.proofs.EntryLaws.{fields-unit, fields-struct}
 use Rattle.typing.proofs.entries.fields_at.Statement.{statement}
 use Rattle.typing.proofs.entries.fields_at.Tie as tie
 
@@ -9,10 +10,8 @@ fields-at-spec =
     tie.close
     (tie.spec
     (λ c κs. search needs)
-    (λ c. search needs)
-    (λ c. search needs)
-    (λ c. search fields-none)
     (λ c κs. search needs)
     (λ c κs. search needs)
-    (λ c. search fields-unit)
-    (λ c. search fields-struct))
+    (λ c κs. search needs)
+    (λ c. (search fields-struct, search needs))
+    (λ c. (search fields-unit, omega arith)))

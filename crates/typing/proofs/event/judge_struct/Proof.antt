@@ -1,4 +1,5 @@
 -- By the two counts.
+use native.Mathlib.Omega.{arith}
 use borrow.Author.Needs.{needs}
 use Rattle.typing.proofs.EventLaws.{alone-spares, struct-count, struct-fields}
 use Rattle.typing.proofs.event.judge_struct.Statement.{statement}
@@ -12,9 +13,8 @@ judge-struct-spec =
     (λ c κs. search needs)
     (λ c κs. search needs)
     (λ c κs. search needs)
-    (λ c κs. search needs)
-    (λ c κs. search needs)
     (λ c. (search struct-count, search alone-spares))
+    (λ c. omega arith)
     (λ c κs. search needs)
     (λ c. search needs)
     (λ c. (search struct-fields, search needs)))

@@ -1,6 +1,6 @@
 -- By where the head ends.
 use borrow.Author.Needs.{needs}
-use Rattle.typing.proofs.FirstLaws.{tag-to, tag-away}
+use Rattle.typing.proofs.TableLaws.{tag-to, tag-away}
 use Rattle.typing.proofs.fill.after_tag.Statement.{statement}
 use Rattle.typing.proofs.fill.after_tag.Tie as tie
 

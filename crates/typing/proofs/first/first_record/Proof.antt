@@ -3,15 +3,16 @@ use native.Mathlib.Omega.{arith}
 use borrow.Author.Needs.{needs}
 use Rattle.reading.specs.Decl.{readEnumDecl, readConstructorGroup}
 use Rattle.typing.specs.First.{groupName, enumName}
-use Rattle.typing.proofs.FirstLaws.{Scanning, first-none, first-start, first-done, group-hit, group-miss, enum-hit, enum-miss}
+use Rattle.typing.proofs.EntryLaws.{scan-start}
+use Rattle.typing.proofs.FirstLaws.{Seeking, first-done, group-hit, group-miss, enum-hit, enum-miss}
 use Rattle.typing.proofs.first.first_record.Statement.{statement}
 use Rattle.typing.proofs.first.first_record.Tie as tie
 
 abbrev Inv-loop : tie.InvT-loop
-Inv-loop doc at name count k₀ left₀ k left = Scanning readConstructorGroup groupName doc at name left k × Scanning readEnumDecl enumName doc at name left k
+Inv-loop doc at name k₀ left₀ k left = Seeking readConstructorGroup groupName doc name left₀ k₀ left k × Seeking readEnumDecl enumName doc name left₀ k₀ left k
 
 abbrev μ-loop : tie.MeasureT-loop
-μ-loop doc at name count k₀ left₀ k left = left
+μ-loop doc at name k₀ left₀ k left = left
 
 pub first-record-spec : {M : Type 1} → statement M
 first-record-spec =
@@ -20,10 +21,7 @@ first-record-spec =
     Inv-loop
     μ-loop
     (λ c κs. search needs)
-    (λ c. search needs)
-    (λ c. search needs)
-    (λ c. (search first-none, search first-none))
-    (λ c. (search first-start, search first-start))
+    (λ c. (scan-start _ _ _ _ _, scan-start _ _ _ _ _))
     (λ c κs. search needs)
     (λ c κs. search needs)
     (λ c κs. search needs)

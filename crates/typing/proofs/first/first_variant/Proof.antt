@@ -3,15 +3,16 @@ use native.Mathlib.Omega.{arith}
 use borrow.Author.Needs.{needs}
 use Rattle.reading.specs.Decl.{readConstructorVariant}
 use Rattle.typing.specs.Patterns.{declaredName}
-use Rattle.typing.proofs.FirstLaws.{Scanning, first-none, first-start, first-done, variant-hit, variant-miss}
+use Rattle.typing.proofs.EntryLaws.{scan-start}
+use Rattle.typing.proofs.FirstLaws.{Seeking, first-done, variant-hit, variant-miss}
 use Rattle.typing.proofs.first.first_variant.Statement.{statement}
 use Rattle.typing.proofs.first.first_variant.Tie as tie
 
 abbrev Inv-loop : tie.InvT-loop
-Inv-loop doc at name count k₀ left₀ k left = Scanning readConstructorVariant declaredName doc at name left k
+Inv-loop doc at name k₀ left₀ k left = Seeking readConstructorVariant declaredName doc name left₀ k₀ left k
 
 abbrev μ-loop : tie.MeasureT-loop
-μ-loop doc at name count k₀ left₀ k left = left
+μ-loop doc at name k₀ left₀ k left = left
 
 pub first-variant-spec : {M : Type 1} → statement M
 first-variant-spec =
@@ -20,10 +21,7 @@ first-variant-spec =
     Inv-loop
     μ-loop
     (λ c κs. search needs)
-    (λ c. search needs)
-    (λ c. search needs)
-    (λ c. search first-none)
-    (λ c. search first-start)
+    (λ c. scan-start _ _ _ _ _)
     (λ c κs. search needs)
     (λ c κs. search needs)
     (λ c κs. search needs)

@@ -1,5 +1,4 @@
 -- Each arm is the kind of its number.
-use mathlib.Core.Path.{refl}
 use Rattle.reading.proofs.Arms.{beyond}
 use Rattle.typing.specs.Shape.{kindOf}
 use Rattle.typing.proofs.ShapeLaws.{kind-beyond}

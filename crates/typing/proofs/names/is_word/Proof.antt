@@ -1,8 +1,6 @@
 -- By the bytes that are handed out.
-use mathlib.Core.Path.{_≡_, ap, _∙_}
 use borrow.Author.Needs.{needs}
-use Rattle.typing.specs.Names.{eqName}
-use Rattle.typing.proofs.NameLaws.{by-text, by-texts}
+use Rattle.typing.proofs.NameLaws.{by-text}
 use Rattle.typing.proofs.names.is_word.Statement.{statement}
 use Rattle.typing.proofs.names.is_word.Tie as tie
 

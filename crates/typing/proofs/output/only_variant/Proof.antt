@@ -1,5 +1,5 @@
 -- By how many there are.
-use Rattle.typing.proofs.EntryLaws.{only-not, only-one}
+use Rattle.typing.proofs.EmitLaws.{only-not, only-one}
 use borrow.Author.Needs.{needs}
 use Rattle.typing.proofs.output.only_variant.Statement.{statement}
 use Rattle.typing.proofs.output.only_variant.Tie as tie

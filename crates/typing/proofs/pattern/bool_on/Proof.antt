@@ -1,16 +1,12 @@
 -- By the type's case.
 use Rattle.typing.specs.Means.{tyOf, causeOf, unfitOf}
 use Rattle.typing.specs.Accepts.{boolOn}
-use Rattle.typing.proofs.AcceptLaws.{bool-bit, bool-literal, bool-state, bool-enum}
 use borrow.Author.Needs.{needs}
 use Rattle.typing.proofs.pattern.bool_on.Statement.{statement}
 use Rattle.typing.proofs.pattern.bool_on.Tie as tie
 
-returns : tie.Need-returns
-unfolding boolOn tyOf unfitOf causeOf
-returns c = search needs
-
 pub bool-on-spec : {M : Type 1} → statement M
+unfolding boolOn tyOf unfitOf causeOf
 bool-on-spec =
     tie.close
     (tie.spec
@@ -19,8 +15,8 @@ bool-on-spec =
     (λ c. search needs)
     (λ c. search needs)
     (λ c. search needs)
-    returns
-    (λ c. search bool-bit)
-    (λ c. search bool-literal)
-    (λ c. search bool-state)
-    (λ c. search bool-enum))
+    (λ c. search needs)
+    (λ c. rw (c .enum-told2 .given .1))
+    (λ c. rw (c .enum-told3 .given .1))
+    (λ c. rw (c .enum-told4 .given .1))
+    (λ c. rw (c .enum-told5 .given .1)))

@@ -1,18 +1,17 @@
 -- The names from place k on decide.
-use Prim.Native.Nat.{_≤_}
 use mathlib.Core.Path.{_≡_}
 use native.Mathlib.Omega.{arith}
 use borrow.Author.Needs.{needs}
 use Rattle.typing.specs.Table.{memberFrom, memberAt}
-use Rattle.typing.proofs.TableLaws.{names-open, names-refused, name-hit, name-miss, name-none}
+use Rattle.typing.proofs.TableLaws.{names-open, name-hit, name-miss, name-none}
 use Rattle.typing.proofs.table.has_name.Statement.{statement}
 use Rattle.typing.proofs.table.has_name.Tie as tie
 
 abbrev Inv-loop : tie.InvT-loop
-Inv-loop doc at name count k₀ left₀ k left = memberFrom left doc k name ≡ memberAt doc at name
+Inv-loop doc at name k₀ left₀ k left = memberFrom left doc k name ≡ memberAt doc at name
 
 abbrev μ-loop : tie.MeasureT-loop
-μ-loop doc at name count k₀ left₀ k left = left
+μ-loop doc at name k₀ left₀ k left = left
 
 pub has-name-spec : {M : Type 1} → statement M
 has-name-spec =
@@ -21,9 +20,6 @@ has-name-spec =
     Inv-loop
     μ-loop
     (λ c κs. search needs)
-    (λ c. search needs)
-    (λ c. search needs)
-    (λ c. search names-refused)
     (λ c. search names-open)
     (λ c κs. search needs)
     (λ c κs. search needs)

@@ -5,27 +5,8 @@ use borrow.Author.Needs.{needs}
 use Rattle.typing.proofs.ty.bits_of.Statement.{statement}
 use Rattle.typing.proofs.ty.bits_of.Tie as tie
 
-returns : tie.Need-returns
-unfolding bitsOf tyOf
-returns c = search needs
-
-returns-2 : tie.Need-returns-2
-unfolding bitsOf tyOf
-returns-2 c = cc
-
-returns-3 : tie.Need-returns-3
-unfolding bitsOf tyOf
-returns-3 c = search needs
-
-returns-4 : tie.Need-returns-4
-unfolding bitsOf tyOf
-returns-4 c = search needs
-
-returns-5 : tie.Need-returns-5
-unfolding bitsOf tyOf
-returns-5 c = search needs
-
 pub bits-of-spec : {M : Type 1} → statement M
+unfolding bitsOf tyOf
 bits-of-spec =
     tie.close
     (tie.spec
@@ -34,8 +15,8 @@ bits-of-spec =
     (λ c. search needs)
     (λ c. search needs)
     (λ c. search needs)
-    returns
-    returns-2
-    returns-3
-    returns-4
-    returns-5)
+    (λ c. search needs)
+    (λ c. cc)
+    (λ c. search needs)
+    (λ c. search needs)
+    (λ c. search needs))
