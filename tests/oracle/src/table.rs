@@ -86,9 +86,9 @@ impl Table {
             "19 property",
             "19 assumption",
         ];
-        println!("{}", heads.map(|head| format!("{head:>13}")).concat());
+        println!("{}", heads.map(|head| format!("{head:>14}")).concat());
         for cause in 1..=31 {
-            let mut line = format!("{cause:>13}");
+            let mut line = format!("{cause:>14}");
             for site in WITH_CAUSE {
                 let count = match site {
                     19 => self.property(cause),
@@ -101,7 +101,7 @@ impl Table {
         }
         println!();
         for (site, _) in pairs().into_iter().filter(|(_, cause)| *cause == 0) {
-            println!("{:>13}{:>13}", format!("site {site}"), self.at(site, 0));
+            println!("{:>14}{:>14}", format!("site {site}"), self.at(site, 0));
         }
     }
 }
@@ -109,7 +109,7 @@ impl Table {
 /// A count, or a dash where the pair can't occur.
 fn cell(site: u32, cause: u32, count: usize) -> String {
     match pairs().contains(&(site, cause)) || count > 0 {
-        true => format!("{count:>13}"),
-        false => format!("{:>13}", "-"),
+        true => format!("{count:>14}"),
+        false => format!("{:>14}", "-"),
     }
 }
