@@ -1,4 +1,4 @@
--- Writing findings one list after another; what the whole list leaves in lent words, and what one finding leaves in five.
+-- writing findings one list after another; what the whole list leaves in lent words, and what one finding leaves in five
 use Prim.Native.Nat.{ℕ, zero, suc, _+_, _-_, _*_, _≤_, _<_}
 use mathlib.Core.Path.{_≡_, refl, sym, ap, _∙_, subst}
 use mathlib.Core.List.{List, [], _∷_, _++_, append-assoc, append-nil}
@@ -45,10 +45,10 @@ then {o} {o′} {o″} {k} {n} {r} {r′} {fs} {gs} p q =
       buffer = q .buffer ∙ ap (λ (x : List ℕ). put x k r gs) (p .buffer) ∙ ap (λ (m : ℕ). put (put o k n fs) k m gs) (p .count) ∙ put-append o k n fs gs;
     }
 
-pub emitted-length : {o o′ : List ℕ} {k n r : ℕ} {fs : List Finding} → Written o k n fs r o′ → length o′ ≡ length o
-emitted-length {o} {o′} {k} {n} {r} {fs} p = ap length (p .buffer) ∙ length-put o k n fs
+pub written-length : {o o′ : List ℕ} {k n r : ℕ} {fs : List Finding} → Written o k n fs r o′ → length o′ ≡ length o
+written-length {o} {o′} {k} {n} {r} {fs} p = ap length (p .buffer) ∙ length-put o k n fs
 
--- One finding: before number k, without room, and written.
+-- one finding: before number k, without room, and written
 pub putOne-before : (o : List ℕ) (k n : ℕ) (f : Finding) → n < k → putOne o k n f ≡ o
 unfolding putOne
 putOne-before o k n f h = rw (lt-leb k n h)
@@ -65,20 +65,20 @@ pub putOne-fits : (o : List ℕ) (k n w : ℕ) (f : Finding) → k ≤ n → 5 *
 unfolding putOne
 putOne-fits o k n w f h l e = rw (le-leb k n h, le-leb (5 * (n - k) + 5) (length o) l) (ap (λ (x : ℕ). sets o x (words f)) (sym e))
 
-pub emitted-before : {o : List ℕ} {k n : ℕ} {f : Finding} → n < k → Written o k n (f ∷ []) (n + 1) o
+pub written-before : {o : List ℕ} {k n : ℕ} {f : Finding} → n < k → Written o k n (f ∷ []) (n + 1) o
 unfolding put
-emitted-before {o} {k} {n} {f} h = record { count = refl; buffer = sym (putOne-before o k n f h) }
+written-before {o} {k} {n} {f} h = record { count = refl; buffer = sym (putOne-before o k n f h) }
 
-pub emitted-full : {o : List ℕ} {k n : ℕ} {f : Finding} → length o < 5 * (n - k) + 5 → Written o k n (f ∷ []) (n + 1) o
+pub written-full : {o : List ℕ} {k n : ℕ} {f : Finding} → length o < 5 * (n - k) + 5 → Written o k n (f ∷ []) (n + 1) o
 unfolding put
-emitted-full {o} {k} {n} {f} h = record { count = refl; buffer = sym (putOne-full o k n f h) }
+written-full {o} {k} {n} {f} h = record { count = refl; buffer = sym (putOne-full o k n f h) }
 
-pub emitted-one : {o o′ : List ℕ} {k n w : ℕ} {f : Finding} → k ≤ n → 5 * (n - k) + 5 ≤ length o → w ≡ 5 * (n - k) → o′ ≡ sets o w (words f)
+pub written-one : {o o′ : List ℕ} {k n w : ℕ} {f : Finding} → k ≤ n → 5 * (n - k) + 5 ≤ length o → w ≡ 5 * (n - k) → o′ ≡ sets o w (words f)
     → Written o k n (f ∷ []) (n + 1) o′
 unfolding put
-emitted-one {o} {o′} {k} {n} {w} {f} h l e p = record { count = refl; buffer = p ∙ sym (putOne-fits o k n w f h l e) }
+written-one {o} {o′} {k} {n} {w} {f} h l e p = record { count = refl; buffer = p ∙ sym (putOne-fits o k n w f h l e) }
 
--- A walk that has `rest` of `all` still to do.
+-- a walk that has rest of all still to do
 pub record Left (o : List ℕ) (k n : ℕ) (all : List Finding) (m : ℕ) (o′ : List ℕ) (rest : List Finding) : Type 0 where
   pub made : List Finding
   pub split : all ≡ made ++ rest
@@ -102,12 +102,12 @@ left-none {o} {o′} {k} {n} {m} {all} {rest} l e =
     (sym (l .split ∙ ap (λ (x : List Finding). l .made ++ x) e ∙ append-nil (l .made))) (l .emitted)
 
 pub left-length : {o o′ : List ℕ} {k n m : ℕ} {all rest : List Finding} → Left o k n all m o′ rest → length o′ ≡ length o
-left-length l = emitted-length (l .emitted)
+left-length l = written-length (l .emitted)
 
 words-length : (f : Finding) → length (words f) ≡ 5
 words-length f = refl
 
--- Five words after p are replaced.
+-- five words after p are replaced
 sets-words : (p q ws : List ℕ) (n : ℕ) → length p ≡ n → length ws ≡ 5 → 5 ≤ length q → sets (p ++ q) n ws ≡ (p ++ ws) ++ drop 5 q
 sets-words p q ws n e w h =
     let l : n + length ws ≡ length p + 5 = omega arith in
@@ -131,11 +131,11 @@ put-front (f ∷ fs) p q n e h =
     ∙ ap (λ (x : ℕ). p ++ words f ++ flat fs ++ drop x q) l
     ∙ ap (λ (x : List ℕ). x ++ drop (5 * length (f ∷ fs)) q) (append-assoc p (words f) (flat fs))
 
--- Whole: from the front, and what is past stays.
+-- whole: from the front, and what is past stays
 pub put-whole : (fs : List Finding) (o : List ℕ) → 5 * length fs ≤ length o → put o 0 0 fs ≡ flat fs ++ drop (5 * length fs) o
 put-whole fs o h = put-front fs [] o 0 refl h
 
--- One: five words from number k on hold the finding number k.
+-- one: five words from number k on hold the finding number k
 put-after : (fs : List Finding) (o : List ℕ) (k n : ℕ) → length o ≡ 5 → k < n → put o k n fs ≡ o
 unfolding put
 put-after [] o k n e h = refl

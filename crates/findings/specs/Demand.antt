@@ -14,7 +14,7 @@ use Rattle.reading.specs.Module.{Module, Ir, encIr}
 use Rattle.reading.specs.Document.{readDocument}
 use Rattle.findings.specs.Lists.{each}
 use Rattle.findings.specs.Finding.{Note, note, Finding, inModule}
-use Rattle.findings.specs.Declared.{states}
+use Rattle.findings.specs.Mentions.{states}
 use Rattle.findings.specs.Reach.{Leads}
 use Rattle.findings.specs.Warnings.{leadsTo}
 use Rattle.findings.specs.Findings.{allErrors, allWarnings, findings}

@@ -3,10 +3,16 @@ pub mod Lists
 pub mod Finding
 pub mod Order
 pub mod Reach
-pub mod Declared
+pub mod Mentions
 pub mod Pairs
 pub mod Errors
 pub mod Warnings
 pub mod Findings
 pub mod Demand
 pub mod Sheet
+pub mod Noting
+pub mod Scene
+pub mod Promises
+pub mod Prints
+pub mod PairPromises
+pub mod WarningPromises

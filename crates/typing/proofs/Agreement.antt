@@ -8,10 +8,10 @@ use Rattle.reading.specs.Decl.{FieldDecl, ConstructorVariant, ConstructorGroup}
 use Rattle.reading.specs.Transition.{OutputExpr}
 use Rattle.reading.specs.Formula.{Formula}
 use Rattle.reading.specs.Formula as formula
-use Rattle.typing.specs.Env.{Env}
+use Rattle.typing.specs.Env.{Env, Agree}
 use Rattle.typing.specs.Formulas.{typeFormula}
 use Rattle.typing.specs.Outputs.{judgeArgs, variantName, judgeOutputVariant, judgeOutputName, judgeOutput, validateOutputExpr}
-use Rattle.typing.proofs.Depends.{Agree, type-agree}
+use Rattle.typing.proofs.Depends.{type-agree}
 
 module _ {a b : Env} (g : Agree a b) where
   pub formula-agree : (f : Formula) → typeFormula a f ≡ typeFormula b f

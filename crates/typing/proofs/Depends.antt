@@ -17,14 +17,8 @@ use Rattle.typing.specs.Types.{ExprType}
 use Rattle.typing.specs.Causes.{andThen}
 use Rattle.typing.specs.Names.{stateEnum}
 use Rattle.typing.specs.Rules.{unaryType, binOp, binaryType}
-use Rattle.typing.specs.Env.{Env, named}
+use Rattle.typing.specs.Env.{Env, named, Agree}
 use Rattle.typing.specs.Typing.{resolveState, orState, resolveName, resolveVariant, resolvePath, typeExpr}
-
--- names mean the same
-pub record Agree (a b : Env) : Type 0 where
-  pub names : (n : Name) → named a n ≡ named b n
-  pub enums : (n : Name) → a .enums n ≡ b .enums n
-  pub variants : (e n : Name) → a .variants e n ≡ b .variants e n
 
 module _ {a b : Env} (g : Agree a b) where
   state-agree : (n : Name) (o : Option ExprType) → orState a n o ≡ orState b n o

@@ -30,11 +30,10 @@ use Rattle.reading.proofs.Walks.{passed, name-text}
 use Rattle.typing.specs.Types.{ExprType, bool, enum, typeToExprType}
 use Rattle.typing.specs.Causes.{firstOf}
 use Rattle.typing.specs.Names.{eqName, member, called, lastCalled}
-use Rattle.typing.specs.Env.{Env, Binding, named, bindingType, varType, given, enumHas, forModule, withBindings}
+use Rattle.typing.specs.Env.{Env, Binding, named, bindingType, varType, given, enumHas, forModule, withBindings, Agree}
 use Rattle.typing.specs.Table.{placeAfter, afterItem, afterHead, pairsFrom, pairsOf, pairsAt, findFirst, findIn, widthType, caseType, exprTypeAt, memberFrom, memberOf, memberAt, typeFound, variantFound, envAt}
 use Rattle.typing.specs.Blames.{Bound, none-bound, more-bound}
 use Rattle.typing.proofs.TableLaws.{pairs-length}
-use Rattle.typing.proofs.Depends.{Agree}
 
 -- an entry, and those after it
 pub record Uncons {A : Type 0} (F : Reader A) (s : List ℕ) (c k : ℕ) (l : List A) (n : ℕ) : Type 0 where
@@ -243,12 +242,12 @@ module _ (s : List ℕ) (B : Bytes s) where
     variants = λ w u. found-or u (findIn s w (pairsAt s enums)) ∙ ap orFalse (enums-hold u enums w (m .enums) j f) ∙ sym (has-or u (lastCalled enumName w (m .enums)));
   }
 
-first-first : {A : Type 0} (a b c : Option A) → firstOf (firstOf a b) c ≡ firstOf a (firstOf b c)
+pub first-first : {A : Type 0} (a b c : Option A) → firstOf (firstOf a b) c ≡ firstOf a (firstOf b c)
 unfolding firstOf
 first-first none b c = refl
 first-first (some a) b c = refl
 
-first-none : {A : Type 0} (a : Option A) → firstOf a none ≡ a
+pub first-none : {A : Type 0} (a : Option A) → firstOf a none ≡ a
 unfolding firstOf
 first-none none = refl
 first-none (some a) = refl

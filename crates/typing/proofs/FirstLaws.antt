@@ -6,9 +6,9 @@ use mathlib.Core.List.{List, [], _∷_}
 use mathlib.Core.Option.{Option, none, some}
 use native.Mathlib.Omega.{arith}
 use lib.ListN.{length}
-use Rattle.reading.specs.Read.{Read, Reader, ok, refused, pick}
+use Rattle.reading.specs.Read.{Read, Reader, ok, pick}
 use Rattle.reading.specs.Limits.{maxList}
-use Rattle.reading.specs.Item.{readCount, readTag}
+use Rattle.reading.specs.Item.{readCount}
 use Rattle.reading.specs.Text.{Name}
 use Rattle.reading.specs.Combine.{entries, listOf}
 use Rattle.reading.specs.Decl.{ConstructorVariant, ConstructorGroup, readConstructorVariant, readConstructorGroup}
@@ -24,7 +24,6 @@ use Rattle.reading.specs.declared.item.Tagged.{Tagged}
 use Rattle.reading.specs.declared.item.Tagged.the-variants as tagged
 use Rattle.reading.proofs.Rules.{no}
 use Rattle.reading.proofs.Answers.{num, out}
-use Rattle.reading.proofs.HeadSound.{Bytes}
 use Rattle.reading.proofs.DeclLaws.{constructor-variant-laws, constructor-group-laws}
 use Rattle.reading.proofs.Views.{constructor-group-at}
 use Rattle.reading.proofs.CaseViews.{constructor-variant-at}
@@ -33,12 +32,22 @@ use Rattle.reading.proofs.Walks.{name-text}
 use Rattle.typing.specs.Causes.{firstOf}
 use Rattle.typing.specs.Names.{eqName, called, firstCalled}
 use Rattle.typing.specs.Patterns.{declaredName}
-use Rattle.typing.specs.Table.{placeAfter, afterItem, afterHead, afterTag, Past}
+use Rattle.typing.specs.Table.{placeAfter, afterHead, afterTag, Past}
 use Rattle.typing.specs.First.{FoundAt, found-here, found-nothing, groupName, First}
 use Rattle.typing.specs.declared.table.Found.{Found}
 use Rattle.typing.specs.declared.table.Found.the-variants.{At, Nothing}
 use Rattle.typing.proofs.TableLaws.{tag-was, tag-out}
 use Rattle.typing.proofs.EnvLaws.{entry, after-is, fields-head}
+
+-- what was found, from what the code learnt of it
+module _ {A : Type 0} {F : Reader A} {s : List ℕ} where
+  pub found-no : {f : Found} {o : Option A} → FoundAt F s f o → f ≡ Nothing → o ≡ none
+  found-no found-nothing q = refl
+  found-no (found-here e) q = no (cc)
+
+  pub found-yes : {f : Found} {o : Option A} {k : ℕ} → FoundAt F s f o → f ≡ At k → (x : A) × (n : ℕ) × (F s k ≡ ok x n) × (o ≡ some x)
+  found-yes found-nothing q = no (cc)
+  found-yes {k = k} (found-here {k = j} e) q = let i : j ≡ k = cc in (_, _, ap (F s) (sym i) ∙ e, refl)
 
 -- the place after a data enum's head
 pub tag-to : (m : Read Tag) {r : Tagged} {t : Tag} {c : Cursor} → r ≡ taggedOf m → r ≡ tagged.Case t c → c .at ≡ placeAfter m
@@ -124,18 +133,18 @@ module _ (s : List ℕ) (at : ℕ) (w : Name) (left k : ℕ) {key : ℕ} {text :
   group-miss z p = miss readConstructorGroup groupName s at w left k g h group-name z (λ x n q. p .is ∙ after-is constructor-group-laws s (p .each) k x n q)
 
 -- variants: after the case number
-module _ (s : List ℕ) (at : ℕ) (w : Name) (left k : ℕ) {key : ℕ} {text : Name} {b : Bool} (g : Scanning readConstructorVariant declaredName s at w left k) (h : 0 < left) (i : key ≡ afterTag s k) (t : text ≡ textAt s key) (e : b ≡ eqName text w) where
-  declared-text : {m c n : ℕ} {x : ConstructorVariant} → ConstructorVariantAt s m c x n → textAt s m ≡ declaredName x
-  unfolding declaredName
-  declared-text {m} (unit-variant q) = name-text s m _ _ q
-  declared-text {m} (struct-variant q r) = name-text s m _ _ q
+pub declared-text : (s : List ℕ) {m c n : ℕ} {x : ConstructorVariant} → ConstructorVariantAt s m c x n → textAt s m ≡ declaredName x
+unfolding declaredName
+declared-text s {m} (unit-variant q) = name-text s m _ _ q
+declared-text s {m} (struct-variant q r) = name-text s m _ _ q
 
+pub variant-text : (s : List ℕ) (k : ℕ) (x : ConstructorVariant) (n : ℕ) → readConstructorVariant s k ≡ ok x n → textAt s (afterTag s k) ≡ declaredName x
+unfolding placeAfter
+variant-text s k x n q = let v = constructor-variant-at s k x n q in ap (λ (m : Read Tag). textAt s (placeAfter m)) (v .tagged) ∙ declared-text s (v .fields)
+
+module _ (s : List ℕ) (at : ℕ) (w : Name) (left k : ℕ) {key : ℕ} {text : Name} {b : Bool} (g : Scanning readConstructorVariant declaredName s at w left k) (h : 0 < left) (i : key ≡ afterTag s k) (t : text ≡ textAt s key) (e : b ≡ eqName text w) where
   variant-name : (x : ConstructorVariant) (n : ℕ) → readConstructorVariant s k ≡ ok x n → b ≡ eqName (declaredName x) w
-  unfolding placeAfter
-  variant-name x n q =
-      let v = constructor-variant-at s k x n q in
-      let j : key ≡ v .next = i ∙ ap placeAfter (v .tagged) in
-      e ∙ ap (λ (z : Name). eqName z w) (t ∙ ap (textAt s) j ∙ declared-text (v .fields))
+  variant-name x n q = e ∙ ap (λ (z : Name). eqName z w) (t ∙ ap (textAt s) i ∙ variant-text s k x n q)
 
   pub variant-hit : b ≡ true → First readConstructorVariant declaredName s at w (At k)
   variant-hit = hit readConstructorVariant declaredName s at w left k g h variant-name

@@ -15,3 +15,9 @@ pub mod JudgeLaws
 pub mod AcceptLaws
 pub mod FirstLaws
 pub mod ArgLaws
+pub mod EntryLaws
+pub mod EmitLaws
+pub mod ClashLaws
+pub mod EqualityLaws
+pub mod GuardLaws
+pub mod NumberLaws

@@ -24,7 +24,7 @@ use Rattle.typing.specs.Types.{ExprType, bool, intLit}
 use Rattle.typing.specs.Causes as causes
 use Rattle.typing.specs.Causes.{Answer as TypeAnswer, is, fails, andThen}
 use Rattle.typing.specs.Rules.{unaryType, binOp, binaryType}
-use Rattle.typing.specs.Env.{Env}
+use Rattle.typing.specs.Env.{Env, Agree}
 use Rattle.typing.specs.Typing.{resolvePath, typeExpr}
 use Rattle.typing.specs.Means.{tyOf, causeOf, Outcome, good, bad, typedOf, outcome}
 use Rattle.typing.specs.Tells.{Ends}
@@ -36,7 +36,7 @@ use Rattle.typing.specs.declared.cause.Cause.{Cause}
 use Rattle.typing.specs.declared.cause.Typed.{Typed}
 use Rattle.typing.specs.declared.cause.Typed.the-variants.{Is, Fails}
 use Rattle.typing.proofs.TableLaws.{tag-was, tag-out}
-use Rattle.typing.proofs.Depends.{Agree, type-agree}
+use Rattle.typing.proofs.Depends.{type-agree}
 
 -- an expression ends where the item does
 pub expr-ends : (d : ℕ) (s : List ℕ) (at : ℕ) {r : ℕ} → Past s at r → Ends (readExpr d s at) r

@@ -1,4 +1,5 @@
 -- What names mean in a place: the environment, as lookup functions.
+use mathlib.Core.Path.{_≡_}
 use mathlib.Core.List.{List, []}
 use mathlib.Core.Bool.{Bool, true, false}
 use mathlib.Core.Option.{Option, none, some}
@@ -23,6 +24,12 @@ stateVariants env = env .variants stateEnum
 -- "then bindings, variables"
 abbrev pub named : Env → Name → Option ExprType
 named env n = firstOf (env .bindings n) (env .vars n)
+
+-- names mean the same in both
+pub record Agree (a b : Env) : Type 0 where
+  pub names : (n : Name) → named a n ≡ named b n
+  pub enums : (n : Name) → a .enums n ≡ b .enums n
+  pub variants : (e n : Name) → a .variants e n ≡ b .variants e n
 
 -- what a pattern's field binds
 pub record Binding : Type 0 where

@@ -20,5 +20,8 @@ pub mod Judges
 pub mod Accepts
 pub mod First
 pub mod Arguments
+pub mod Entries
+pub mod Emits
 pub mod Blames
 pub mod Holds
+pub mod Equalities

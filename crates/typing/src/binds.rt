@@ -12,7 +12,7 @@ ghost use lib.Dec.{eqb};
 ghost use Rattle.typing.specs.Judges.{FieldBinds, FieldsBind, VariantBinds, ChecksGroup};
 
 // Whether null stands at a place.
-pub(crate) fn null_at(doc: &[u8], at: usize) -> bool
+pub fn null_at(doc: &[u8], at: usize) -> bool
     ensures { λ r. ⌜ r ≡ eqb (getD (now (doc .entry)) at 0) 246 ⌝ }
 {
     if at < doc.len() {

@@ -10,7 +10,7 @@ ghost use lib.Seq.{sets};
 ghost use Rattle.typing.specs.Table.{afterHead, afterTag, pairsAt, Filled};
 
 // Puts a place into the table, where it has such a word.
-fn store(table: &mut [usize], j: usize, place: usize)
+pub fn store(table: &mut [usize], j: usize, place: usize)
     ensures { λ _. ⌜ now (table .exit) ≡ set (now (table .entry)) j place ⌝ }
 {
     if j < table.len() {
@@ -19,7 +19,7 @@ fn store(table: &mut [usize], j: usize, place: usize)
 }
 
 // The place after the head of the record at a place.
-pub(crate) fn after_head(doc: &[u8], at: usize) -> usize
+pub fn after_head(doc: &[u8], at: usize) -> usize
     ensures { λ r. ⌜ r ≡ afterHead (now (doc .entry)) at ⌝ }
 {
     let c = Cursor { at };

@@ -19,7 +19,7 @@ pub enum Found {
 }
 
 // The place after the item at a place.
-pub(crate) fn after(doc: &[u8], at: usize) -> usize
+pub fn after(doc: &[u8], at: usize) -> usize
     ensures { λ r. ⌜ Past (now (doc .entry)) at r ⌝ }
 {
     let c = Cursor { at };

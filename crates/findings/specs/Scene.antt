@@ -1,0 +1,99 @@
+-- Places of a document in tables: those of the fields of a record, and of each record of a list.
+use Prim.Native.Nat.{ℕ, zero, suc, _+_, _*_}
+use mathlib.Core.Path.{_≡_}
+use mathlib.Core.List.{List, [], _∷_, _++_}
+use mathlib.Core.Option.{some}
+use lib.ListN.{getD, getElem?}
+use lib.Seq.{sets}
+use Rattle.reading.specs.Read.{Read, Reader, ok, refused}
+use Rattle.reading.specs.Limits.{maxU32, maxList}
+use Rattle.reading.specs.Item.{readNumber, readCount}
+use Rattle.reading.specs.Text.{Name, readName, readVersion}
+use Rattle.reading.specs.Combine.{listOf, optional}
+use Rattle.reading.specs.Decl.{readNames, readEnumDecl, readConstructorGroup, readVarDecl}
+use Rattle.reading.specs.Pattern.{readPattern}
+use Rattle.reading.specs.Transition.{Transition, readTopExpr, readOutputExpr, readAssignment, readOnError, readTransition}
+use Rattle.reading.specs.Module.{Module, readProperty}
+use Rattle.typing.specs.Table.{afterItem, afterHead}
+use Rattle.findings.specs.declared.rows.Listed.{Listed}
+use Rattle.typing.specs.declared.table.Found.{Found}
+use Rattle.typing.specs.declared.table.Found.the-variants.{At, Nothing}
+
+-- so many items from a place on, one after another: their places, and the place after them
+unfoldable pub rowFrom : ℕ → List ℕ → ℕ → List ℕ
+rowFrom zero s k = []
+rowFrom (suc f) s k = k ∷ rowFrom f s (afterItem s k)
+
+unfoldable pub endFrom : ℕ → List ℕ → ℕ → ℕ
+endFrom zero s k = k
+endFrom (suc f) s k = endFrom f s (afterItem s k)
+
+-- those of the first fields of the record at a place
+abbrev pub rowAt : ℕ → List ℕ → ℕ → List ℕ
+rowAt fields s at = rowFrom fields s (afterHead s at)
+
+abbrev pub rowEnd : ℕ → List ℕ → ℕ → ℕ
+rowEnd fields s at = endFrom fields s (afterHead s at)
+
+-- those of so many transitions from a place on
+unfoldable pub rowsFrom : ℕ → List ℕ → ℕ → List ℕ
+rowsFrom zero s k = []
+rowsFrom (suc c) s k = rowAt 8 s k ++ rowsFrom c s (rowEnd 8 s k)
+
+unfoldable pub rowsEnd : ℕ → List ℕ → ℕ → ℕ
+rowsEnd zero s k = k
+rowsEnd (suc c) s k = rowsEnd c s (rowEnd 8 s k)
+
+unfoldable pub rowsOf : List ℕ → Read ℕ → List ℕ
+rowsOf s (ok count first) = rowsFrom count s first
+rowsOf s (refused f p) = []
+
+-- those of the list at a place
+unfoldable pub rowsAt : List ℕ → ℕ → List ℕ
+rowsAt s at = rowsOf s (readCount maxList s at)
+
+-- a table is filled from its start on; the other words keep their contents, and what does not fit is left out
+pub record RowsFilled (s : List ℕ) (at : ℕ) (table : List ℕ) (r : Listed) (table′ : List ℕ) : Type 0 where
+  pub words : table′ ≡ sets table 0 (rowsAt s at)
+  pub of : (count first : ℕ) → readCount maxList s at ≡ ok count first → (r .count ≡ count) × (r .end ≡ rowsEnd count s first)
+
+-- content reads at a place
+pub record Reads {A : Type 0} (F : Reader A) (s : List ℕ) (at : ℕ) (x : A) : Type 0 where
+  pub end : ℕ
+  pub is : F s at ≡ ok x end
+
+-- word f of row i: a transition has eight fields
+abbrev pub field : List ℕ → ℕ → ℕ → ℕ
+field rows i f = getD rows (8 * i + f) 0
+
+-- row i has the places of a transition's fields
+pub record RowAt (s rows : List ℕ) (i : ℕ) (t : Transition) : Type 0 where
+  pub state-is : readName s (field rows i 1) ≡ ok (t .state) (field rows i 2)
+  pub pattern-is : readPattern s (field rows i 2) ≡ ok (t .pattern) (field rows i 3)
+  pub guard-is : optional readTopExpr s (field rows i 3) ≡ ok (t .guard) (field rows i 4)
+  pub next-state-is : readName s (field rows i 4) ≡ ok (t .next-state) (field rows i 5)
+  pub emits-are : listOf maxList readOutputExpr s (field rows i 5) ≡ ok (t .emits) (field rows i 6)
+  pub assignments-are : listOf maxList readAssignment s (field rows i 6) ≡ ok (t .assignments) (field rows i 7)
+  pub priority-is : Reads (optional (readNumber maxU32)) s (field rows i 7) (t .priority)
+
+-- each row those of its transition
+pub record Rows (s rows : List ℕ) (ts : List Transition) : Type 0 where
+  pub at : (i : ℕ) (t : Transition) → getElem? ts i ≡ some t → RowAt s rows i t
+
+-- the places of a module's fields, in the order of ir.rs
+pub record Scene (s places : List ℕ) (m : Module) : Type 0 where
+  pub version-is : Reads (optional readVersion) s (getD places 1 0) (m .version)
+  pub on-error-is : Reads (optional readOnError) s (getD places 2 0) (m .on-error)
+  pub enums-are : Reads (listOf maxList readEnumDecl) s (getD places 3 0) (m .enums)
+  pub initial-state-is : Reads (optional readName) s (getD places 4 0) (m .initial-state)
+  pub events-are : Reads (listOf maxList readConstructorGroup) s (getD places 5 0) (m .events)
+  pub outputs-are : Reads (listOf maxList readConstructorGroup) s (getD places 6 0) (m .outputs)
+  pub vars-are : Reads (listOf maxList readVarDecl) s (getD places 7 0) (m .vars)
+  pub transitions-are : Reads (listOf maxList readTransition) s (getD places 8 0) (m .transitions)
+  pub properties-are : Reads (listOf maxList readProperty) s (getD places 9 0) (m .properties)
+  pub assumptions-are : Reads (listOf maxList readProperty) s (getD places 10 0) (m .assumptions)
+
+-- the variants of the first enum called State stand at a place; there are none where there is no such enum
+pub data StatesAt (s : List ℕ) : Found → List Name → Type 0 where
+  states-here : {k : ℕ} {vs : List Name} → Reads readNames s k vs → StatesAt s (At k) vs
+  states-none : StatesAt s Nothing []

@@ -1,0 +1,137 @@
+-- What each step of the judging of a guard gives, for whatever reads there.
+use Prim.Native.Nat.{ℕ, _-_}
+use mathlib.Core.Path.{_≡_, refl, sym, ap, _∙_}
+use mathlib.Core.Bool.{Bool, true, false}
+use mathlib.Core.List.{List, _++_}
+use native.Mathlib.Omega.{arith}
+use lib.Dec.{eqb}
+use borrow.Author.Tests.{eq-eqb, ne-eqb}
+use Rattle.reading.specs.Read.{ok, pick}
+use Rattle.reading.specs.Item.{readKind, readBool, readTag}
+use Rattle.reading.specs.Text.{Name}
+use Rattle.reading.specs.Expr.{Expr, readExpr}
+use Rattle.reading.specs.Expr as expr
+use Rattle.reading.specs.Skip.{textAt}
+use Rattle.reading.specs.Link.{answer, taggedOf}
+use Rattle.reading.specs.Views.{ExprAt, int-expr, bool-expr, path-expr, unary-expr, binary-expr}
+use Rattle.reading.specs.declared.cursor.Cursor.{Cursor}
+use Rattle.reading.specs.declared.fault.Fault.{Fault}
+use Rattle.reading.specs.declared.item.Answer.{Answer}
+use Rattle.reading.specs.declared.item.Answer.the-variants.{Got, Refused}
+use Rattle.reading.specs.declared.item.Tag.{Tag}
+use Rattle.reading.specs.declared.item.Tagged.{Tagged}
+use Rattle.reading.specs.declared.item.Tagged.the-variants as tagged
+use Rattle.reading.proofs.Rules.{no}
+use Rattle.reading.proofs.Gives.{Gives, gives-ok, gives-refused, gives-pick, gives-bind}
+use Rattle.reading.proofs.Answers.{num, out}
+use Rattle.typing.specs.Causes.{firstOf}
+use Rattle.typing.specs.Guards.{isLiteralFalse, conjuncts, contradictoryEqualities}
+use Rattle.typing.specs.Holds.{clashOf, LiteralFalse, Contradicts}
+use Rattle.typing.specs.Tells.{Ends}
+use Rattle.typing.specs.Equalities.{listed, equalitiesOf, differs, firstClash, equalityOf, FalseAt, ConjunctAt, FirstEquality, ClashOf, FirstClash, ClashOfTwo}
+use Rattle.typing.specs.declared.guard.Clash.{Clash}
+use Rattle.typing.specs.declared.guard.Clash.the-variants as clash
+use Rattle.typing.specs.declared.equality.Equality.{Equality}
+use Rattle.typing.specs.declared.equality.Equality.the-variants.{Nothing, Is}
+use Rattle.typing.specs.declared.equality.Conjunct.{Conjunct}
+use Rattle.typing.specs.declared.equality.Conjunct.the-variants.{And, One}
+use Rattle.typing.proofs.EnvLaws.{first-none}
+use Rattle.typing.proofs.ClashLaws.{clash-append, clashes-are}
+use Rattle.typing.proofs.EqualityLaws.{deep-enough, case-fields, no-case, was-and, was-one}
+
+-- the literal false: 20 in a head of major type 7
+bool-head : (s : List ℕ) (at : ℕ) → Gives (λ b n. (v : ℕ) × (readKind 7 s at ≡ ok v n) × (eqb v 20 ≡ isLiteralFalse (expr.bool b))) (readBool s at)
+unfolding readBool isLiteralFalse
+bool-head s at = gives-bind _ _ _ λ v n e. gives-pick _ _ _ _ (λ q. gives-ok _ false n (v, e, q)) (λ q. gives-pick _ _ _ _ (λ _. gives-ok _ true n (v, e, q)) (λ _. gives-refused _ _ _))
+
+module _ (s : List ℕ) (at : ℕ) {a : Answer} (e : a ≡ answer (readKind 7 s at)) where
+  pub false-none : (r : Bool) {f : Fault} {p : ℕ} → a ≡ Refused f p → FalseAt s at r
+  false-none r q = record { of = λ b n g. let w = bool-head s at b n g in let x = w .1 in no (let y = out _ e q in cc) }
+
+  pub false-is : {v : ℕ} {c : Cursor} (r : Bool) → a ≡ Got v c → r ≡ eqb v 20 → FalseAt s at r
+  false-is {v} r q h = record {
+    of = λ b n g.
+        let w = bool-head s at b n g in
+        let x = w .1 in
+        let y = num _ e q in
+        let z : v ≡ w .0 = cc in
+        h ∙ ap (λ (i : ℕ). eqb i 20) z ∙ w .2;
+  }
+
+module _ (d : ℕ) (s : List ℕ) (at : ℕ) {a : Tagged} (e : a ≡ taggedOf (readTag s at)) where
+  pub literal-none : (r : Bool) {f : Fault} {p : ℕ} → a ≡ tagged.Refused f p → LiteralFalse d s at r
+  literal-none r q = record { of = λ x n g. no-case d s at e x n g q }
+
+  module _ {t : Tag} {c : Cursor} (q : a ≡ tagged.Case t c) where
+    pub literal-other : (t .case ≡ 1 → ⊥) → LiteralFalse d s at false
+    unfolding isLiteralFalse
+    literal-other k = record { of = λ x n g. go (case-fields d s at e x n g q) k }
+      where
+        go : {m : ℕ} {x : Expr} {n : ℕ} → ExprAt (d - 1) s (c .at) m x n → (m ≡ 1 → ⊥) → false ≡ isLiteralFalse x
+        go (int-expr u) i = refl
+        go (bool-expr u) i = absurd (i refl)
+        go (path-expr u) i = refl
+        go (unary-expr u v) i = refl
+        go (binary-expr u v w) i = refl
+
+    pub literal-bool : (r : Bool) → t .case ≡ 1 → FalseAt s (c .at) r → LiteralFalse d s at r
+    literal-bool r k h = record { of = λ x n g. go (case-fields d s at e x n g q) k }
+      where
+        go : {m : ℕ} {x : Expr} {n : ℕ} → ExprAt (d - 1) s (c .at) m x n → m ≡ 1 → r ≡ isLiteralFalse x
+        go (int-expr u) i = absurd (omega arith)
+        go (bool-expr u) i = h .of _ _ u
+        go (path-expr u) i = absurd (omega arith)
+        go (unary-expr u v) i = absurd (omega arith)
+        go (binary-expr u v w) i = absurd (omega arith)
+
+-- an equality against the first of its name
+module _ (s : List ℕ) (root depth : ℕ) {q : Equality} where
+  pub clash-nothing : q ≡ Nothing → ClashOf s root depth q clash.Nothing
+  unfolding firstClash listed equalityOf clashOf
+  clash-nothing e = record { of = λ g m u. rw e }
+
+  module _ {n v : ℕ} {w : Name} {f : Equality} (e : q ≡ Is n v) (t : w ≡ textAt s n) (h : FirstEquality depth s root w f) where
+    one-clash : (g : Expr) (m : ℕ) → readExpr depth s root ≡ ok g m → firstClash (equalitiesOf g) (listed (equalityOf s q)) ≡ differs (record { name = textAt s n; value = v }) (equalityOf s f)
+    unfolding firstClash listed equalityOf
+    one-clash g m u = rw (e, sym t, sym (h .of g m u)) (first-none _)
+
+    pub clash-absent : f ≡ Nothing → ClashOf s root depth q clash.Nothing
+    unfolding differs equalityOf clashOf
+    clash-absent z = record { of = λ g m u. rw (one-clash g m u, z) }
+
+    module _ {k p : ℕ} (z : f ≡ Is k p) where
+      pub clash-same : p ≡ v → ClashOf s root depth q clash.Nothing
+      unfolding differs equalityOf clashOf pick
+      clash-same i = record { of = λ g m u. rw (one-clash g m u, z, eq-eqb p v i) }
+
+      pub clash-found : (p ≡ v → ⊥) → ClashOf s root depth q (clash.Found n p v)
+      unfolding differs equalityOf clashOf pick
+      clash-found i = record { of = λ g m u. rw (one-clash g m u, z, ne-eqb p v i) }
+
+-- the first clash
+module _ (d : ℕ) (s : List ℕ) (at root depth : ℕ) (r : Clash) where
+  pub clash-deep : d ≡ 0 → FirstClash d s at root depth r
+  clash-deep z = record { of = λ x n g m u v. absurd (deep-enough d s at x n u z) }
+
+  module _ {c : Conjunct} (h : ConjunctAt d s at c) where
+    pub clash-and : {k : ℕ} → c ≡ And k → ClashOfTwo (d - 1) s k root depth r → FirstClash d s at root depth r
+    clash-and q f = record { of = λ x n g m u y. let v = was-and (h .of x n u) q in f .of (v .0) (v .1) (v .2) (v .3) g m (v .4) (v .5) y ∙ ap (firstClash (equalitiesOf g)) (sym (v .6)) }
+
+    pub clash-one : {q : Equality} → c ≡ One q → ClashOf s root depth q r → FirstClash d s at root depth r
+    clash-one q f = record { of = λ x n g m u y. f .of g m y ∙ ap (firstClash (equalitiesOf g)) (sym (was-one (h .of x n u) q)) }
+
+module _ (d : ℕ) (s : List ℕ) (at root depth : ℕ) {right : ℕ} {x : Clash} (h : Ends (readExpr d s at) right) (f : FirstClash d s right root depth x) where
+  clash-first : (a : Expr) (j : ℕ) (b : Expr) (n : ℕ) (g : Expr) (m : ℕ) → readExpr d s at ≡ ok a j → readExpr d s j ≡ ok b n → readExpr depth s root ≡ ok g m → firstClash (equalitiesOf g) (equalitiesOf b ++ equalitiesOf a) ≡ firstOf (clashOf s x) (firstClash (equalitiesOf g) (equalitiesOf a))
+  clash-first a j b n g m u v y = rw (clash-append (equalitiesOf g) (equalitiesOf b) (equalitiesOf a), f .of b n g m (ap (readExpr d s) (h .of a j u) ∙ v) y)
+
+  pub clash-right : {k p v : ℕ} → x ≡ clash.Found k p v → ClashOfTwo d s at root depth x
+  unfolding clashOf firstOf
+  clash-right q = record { of = λ a j b n g m u v y. rw (clash-first a j b n g m u v y, q) }
+
+  pub clash-left : (r : Clash) → x ≡ clash.Nothing → FirstClash d s at root depth r → ClashOfTwo d s at root depth r
+  unfolding clashOf firstOf
+  clash-left r q k = record { of = λ a j b n g m u v y. rw (clash-first a j b n g m u v y, q) (k .of a j g m u y) }
+
+pub contradicts : (d : ℕ) (s : List ℕ) (at : ℕ) (r : Clash) → FirstClash d s at at d r → Contradicts d s at r
+unfolding contradictoryEqualities
+contradicts d s at r h = record { of = λ e n g. h .of e n e n g g ∙ sym (clashes-are (conjuncts e)) }
