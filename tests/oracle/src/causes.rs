@@ -27,14 +27,31 @@ pub enum Kind {
     Init,
     Pattern,
     Guard,
-    /// Whether a guard that has a type is no bool: due is 1 or 0.
-    GuardNotBool,
     Set,
     Emit,
     OnErrorEmit,
     Property,
     Assumption,
+    // Of these due is 1 where the original gives the site, else 0.
+    /// A guard that has a type: site 10.
+    NoBool,
+    /// A version string: site 4.
+    Version,
+    /// A formula's bounds: site 20.
+    Bound,
+    /// A guard: site 25, and site 26.
+    AlwaysFalse,
+    Contradiction,
 }
+
+/// The kinds whose due is 1 or 0, each with its name and its site.
+pub const GIVEN: [(Kind, &str, u32); 5] = [
+    (Kind::NoBool, "guard no bool", 10),
+    (Kind::Version, "version", 4),
+    (Kind::Bound, "bound", 20),
+    (Kind::AlwaysFalse, "guard false", 25),
+    (Kind::Contradiction, "contradiction", 26),
+];
 
 /// The kinds that have a cause, each with its name and its site.
 pub const JUDGED: [(Kind, &str, u32); 8] = [
@@ -87,7 +104,7 @@ struct Walk {
     emits: u32,
     sets: u32,
     properties: u32,
-    /// What stands last: a transition, on_error, properties or assumptions.
+    /// The kind of the next output or formula.
     within: Kind,
 }
 
@@ -112,6 +129,7 @@ impl Walk {
         let at = item.at;
         match item.label {
             "Module" => self.start_module(),
+            "Module.version" if !item.absent => self.given(Kind::Version, [4, 0, 0], at),
             "Module.on_error" => self.within = Kind::OnErrorEmit,
             "Module.enums" => self.step(Kind::Enums, 0, at),
             "Module.events" => self.step(Kind::Events, 0, at),
@@ -131,6 +149,7 @@ impl Walk {
             "Property.formula" => {
                 self.properties += 1;
                 self.judged(self.within, [19, self.properties - 1, 0], at);
+                self.given(Kind::Bound, [20, self.properties - 1, 0], at);
             }
             _ => (),
         }
@@ -189,9 +208,16 @@ impl Walk {
         let place = self.transition();
         self.judged(Kind::Guard, [9, place, 0], at);
         if self.found([9, place, 0]).is_none() {
-            let no_bool = self.found([10, place, 0]).is_some();
-            self.step(Kind::GuardNotBool, no_bool.into(), at);
+            self.given(Kind::NoBool, [10, place, 0], at);
         }
+        self.given(Kind::AlwaysFalse, [25, place, 0], at);
+        if self.found([25, place, 0]).is_none() {
+            self.given(Kind::Contradiction, [26, place, 0], at);
+        }
+    }
+
+    fn given(&mut self, kind: Kind, finding: [u32; 3], at: usize) {
+        self.step(kind, self.found(finding).is_some().into(), at);
     }
 
     fn judged(&mut self, kind: Kind, finding: [u32; 3], at: usize) {
@@ -230,7 +256,7 @@ pub fn records() -> Vec<Record> {
     }
     kept.add(record(&cases::full()));
     for (kind, fault) in wanted() {
-        let due = if fault.0 == 10 { 1 } else { fault.1 };
+        let due = if fault.1 == 0 { 1 } else { fault.1 };
         while kept.count(kind, due) < LEAST {
             let record = record(&planted::with_fault(rng, fault));
             if record.steps.iter().any(|s| (s.kind, s.due) == (kind, due)) {
@@ -249,8 +275,8 @@ pub fn records() -> Vec<Record> {
 
 /// Every kind with every fault it can show.
 fn wanted() -> Vec<(Kind, (u32, u32))> {
-    let mut wanted = vec![(Kind::GuardNotBool, (10, 0))];
-    for (kind, _, site) in JUDGED {
+    let mut wanted = Vec::new();
+    for (kind, _, site) in JUDGED.into_iter().chain(GIVEN) {
         let pairs = cases::pairs().into_iter();
         wanted.extend(pairs.filter(|pair| pair.0 == site).map(|pair| (kind, pair)));
     }
@@ -326,8 +352,11 @@ pub fn report(records: &[Record]) {
         });
         println!("{cause:>11}{}", cells.concat());
     }
-    let of = |due| counts.get(&(Kind::GuardNotBool, due)).unwrap_or(&0);
-    println!("\nguards with a type: {} bool, {} not", of(0), of(1));
+    println!("\n{:>14}{:>11}{:>11}", "kind", "given", "not");
+    for (kind, name, _) in GIVEN {
+        let of = |due| counts.get(&(kind, due)).unwrap_or(&0);
+        println!("{name:>14}{:>11}{:>11}", of(1), of(0));
+    }
     let steps: usize = records.iter().map(|record| record.steps.len()).sum();
-    println!("{} documents, {steps} steps", records.len());
+    println!("\n{} documents, {steps} steps", records.len());
 }

@@ -554,6 +554,10 @@ fn kept_causes() {
             assert!(counts[&(kind, cause)] >= causes::LEAST, "{name} {cause}");
         }
     }
+    for (kind, name, _) in causes::GIVEN {
+        assert!(counts[&(kind, 0)] > 100, "{name} not given");
+        assert!(counts[&(kind, 1)] >= causes::LEAST, "{name} given");
+    }
 }
 
 /// The steps of a module with each of its parts, by their places.
@@ -577,6 +581,7 @@ fn steps_of_a_document() {
             (Events, 0),
             (Outputs, 0),
             (Vars, 0),
+            (Version, 0),
             (Enums, 0),
             (Events, 0),
             (Outputs, 0),
@@ -587,13 +592,17 @@ fn steps_of_a_document() {
             (Init, 0),
             (Pattern, 0),
             (Guard, 0),
-            (GuardNotBool, 1),
+            (NoBool, 1),
+            (AlwaysFalse, 0),
+            (Contradiction, 0),
             (Emit, 0),
             (Set, 0),
             (Pattern, 0),
             (Set, 20),
             (Property, 0),
+            (Bound, 0),
             (Assumption, 0),
+            (Bound, 0),
             (OnErrorEmit, 16),
         ]
     );
@@ -603,6 +612,7 @@ fn steps_of_a_document() {
         let due: &[u8] = match step.kind {
             Enums | Events | Outputs | Vars => &[0x80, 0x81, 0x82, 0x83, 0x84],
             Pattern => &[0x82],
+            Version => &[0x63],
             Emit | OnErrorEmit => &[0x83],
             _ => &[0x82, 0x83, 0x84],
         };
