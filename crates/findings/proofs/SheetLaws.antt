@@ -9,7 +9,7 @@ use lib.ListN.{length, getD, drop, length-append, length-drop, drop-of-length-le
 use lib.Seq.{sets, sets-eq, length-sets, take-at, drop-append-add, drop-drop}
 use lib.Dec.{leb}
 use borrow.Author.Tests.{le-leb, lt-leb}
-use Rattle.findings.specs.Finding.{Note, note, Finding, inModule, words, noted}
+use Rattle.findings.specs.Finding.{note, Finding, inModule, words}
 use Rattle.findings.specs.Sheet.{putOne, put, Written, flat}
 
 pub length-cond : (b : Bool) (x y o : List ℕ) → length x ≡ length o → length y ≡ length o → length (cond b x y) ≡ length o

@@ -17,7 +17,7 @@ use Rattle.typing.specs.Patterns.{Judged, validateEventPattern}
 use Rattle.typing.specs.Outputs.{validateOutputExpr}
 use Rattle.typing.specs.Formulas.{typeFormula, boundedAlwaysError}
 use Rattle.typing.specs.Version.{isValidVersionFormat}
-use Rattle.findings.specs.Lists.{Placed, placed, any, each}
+use Rattle.findings.specs.Lists.{Placed, placed, each}
 use Rattle.findings.specs.Finding.{Note, note, noted, caused, blamed, typeCause}
 use Rattle.findings.specs.Mentions.{states}
 use Rattle.findings.specs.Pairs.{clash, byState}

@@ -1,8 +1,7 @@
 -- The findings of a document: "All errors by module, then all warnings by module."
-use Prim.Native.Nat.{ℕ}
 use mathlib.Core.List.{List, _++_, map}
 use Rattle.reading.specs.Module.{Module, Ir}
-use Rattle.findings.specs.Lists.{Placed, placed, each}
+use Rattle.findings.specs.Lists.{placed, each}
 use Rattle.findings.specs.Finding.{Note, Finding, inModule}
 use Rattle.findings.specs.Errors.{errors}
 use Rattle.findings.specs.Warnings.{warnings}

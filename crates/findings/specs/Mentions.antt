@@ -1,5 +1,4 @@
 -- What a module declares, as the findings use it: the first enum called State, groups by name, the names that are mentioned.
-use Prim.Native.Nat.{ℕ}
 use mathlib.Core.List.{List, [], _∷_, _++_, map}
 use mathlib.Core.Bool.{Bool}
 use mathlib.Core.Option.{Option, none, some}
@@ -7,7 +6,7 @@ use Rattle.reading.specs.Text.{Name}
 use Rattle.reading.specs.Expr.{Expr}
 use Rattle.reading.specs.Expr as expr
 use Rattle.reading.specs.Decl.{EnumDecl, ConstructorGroup}
-use Rattle.reading.specs.Pattern.{Pattern, PatternVariant}
+use Rattle.reading.specs.Pattern.{PatternVariant}
 use Rattle.reading.specs.Transition.{OutputExpr, Assignment, OnError, Transition}
 use Rattle.reading.specs.Module.{Module}
 use Rattle.typing.specs.Names.{eqName, member, firstCalled, stateEnum}

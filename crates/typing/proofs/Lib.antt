@@ -14,6 +14,10 @@ pub mod EnvLaws
 pub mod JudgeLaws
 pub mod AcceptLaws
 pub mod FirstLaws
+pub mod FieldLaws
+pub mod WalkLaws
+pub mod EventLaws
+pub mod FewLaws
 pub mod ArgLaws
 pub mod EntryLaws
 pub mod EmitLaws

@@ -23,5 +23,7 @@ pub mod Arguments
 pub mod Entries
 pub mod Emits
 pub mod Blames
+pub mod Fields
+pub mod Event
 pub mod Holds
 pub mod Equalities

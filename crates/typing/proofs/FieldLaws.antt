@@ -1,0 +1,251 @@
+-- What each step of the judging of one field of a pattern gives, for whatever reads there.
+use Prim.Native.Nat.{ℕ, suc, _+_, _-_, _<_, _≤_}
+use mathlib.Core.Path.{_≡_, refl, sym, ap, subst, _∙_}
+use mathlib.Core.Bool.{Bool, true, false}
+use mathlib.Core.List.{List, [], _∷_}
+use mathlib.Core.Option.{Option, none, some}
+use native.Mathlib.Omega.{arith}
+use native.Mathlib.Numerals.{add-one}
+use lib.ListN.{length, getD, set}
+use lib.Seq.{set-out}
+use lib.Dec.{eqb}
+use borrow.Author.Tests.{eq-eqb, ne-eqb}
+use Rattle.reading.specs.Read.{ok, pick}
+use Rattle.reading.specs.Limits.{maxList}
+use Rattle.reading.specs.Item.{readCount}
+use Rattle.reading.specs.Text.{Name, readName}
+use Rattle.reading.specs.Decl.{FieldDecl, readTy, readFieldDecl}
+use Rattle.reading.specs.Pattern.{PatternField, readPatternExpr, readPatternField}
+use Rattle.reading.specs.Skip.{textAt}
+use Rattle.reading.specs.Link.{answer}
+use Rattle.reading.specs.Views.{OptionAt, absent, present}
+use Rattle.reading.specs.declared.cursor.Cursor.{Cursor}
+use Rattle.reading.specs.declared.fault.Fault.{Fault}
+use Rattle.reading.specs.declared.item.Answer.{Answer}
+use Rattle.reading.specs.declared.item.Answer.the-variants.{Got, Refused}
+use Rattle.reading.proofs.Rules.{no, pick-true, pick-false}
+use Rattle.reading.proofs.Answers.{num, out}
+use Rattle.reading.proofs.ItemLaws.{count-kind}
+use Rattle.reading.proofs.OptionLaws.{option-laws}
+use Rattle.reading.proofs.ExprLaws.{name-laws, name-solid}
+use Rattle.reading.proofs.Views.{field-decl-at, pattern-field-at}
+use Rattle.reading.proofs.ListViews.{option-at}
+use Rattle.reading.proofs.Walks.{name-text}
+use Rattle.typing.specs.Types.{typeToExprType}
+use Rattle.typing.specs.Causes as causes
+use Rattle.typing.specs.Causes.{field, blame}
+use Rattle.typing.specs.Names.{eqName, member}
+use Rattle.typing.specs.Patterns.{patternExprCompatible, judged, bound, orElse, judgeField}
+use Rattle.typing.specs.Means.{causeOf, unfitOf, withinOf, blameOf}
+use Rattle.typing.specs.Table.{afterItem, afterHead, Past, exprTypeAt}
+use Rattle.typing.specs.Accepts.{Accepts}
+use Rattle.typing.specs.Blames.{none-bound, more-bound, Binds}
+use Rattle.typing.specs.Fields.{fieldNamed, namedFrom, Passed, unnamed, again, fresh, nameIn, namedOf, NamesField, FitsField, noMore, JudgesField, countOf, Counted}
+use Rattle.typing.specs.declared.cause.Cause.{Cause}
+use Rattle.typing.specs.declared.cause.Cause.the-variants.{DuplicateBinding}
+use Rattle.typing.specs.declared.cause.Within.the-variants.{Alone, Field}
+use Rattle.typing.specs.declared.cause.Blame.{Blame}
+use Rattle.typing.specs.declared.cause.Blame.the-variants.{Nothing, Found}
+use Rattle.typing.specs.declared.rules.Fit.{Fit}
+use Rattle.typing.specs.declared.rules.Fit.the-variants.{Fine, Unfit}
+use Rattle.typing.specs.declared.field.Naming.{Naming}
+use Rattle.typing.specs.declared.field.Naming.the-variants.{Unnamed, Again, Fresh}
+use Rattle.typing.proofs.EnvLaws.{after-is, fields-head, type-is}
+
+-- the place after the item at a place that is known
+pub past-at : {s : List ℕ} {k k′ r : ℕ} → k ≡ k′ → Past s k r → Past s k′ r
+past-at {s} {k} {k′} {r} h p = subst (λ (z : ℕ). Past s z r) h p
+
+-- whether a field has the name
+module _ (s : List ℕ) (at : ℕ) (w : Name) {k : ℕ} {b : Bool} (h : k ≡ afterHead s at) (e : b ≡ eqb (getD s k 0) 246) where
+  pub named-null : b ≡ true → false ≡ fieldNamed s at w
+  unfolding fieldNamed pick
+  named-null q = rw (sym h, sym e ∙ q)
+
+  pub named-text : {t : Name} {r : Bool} → b ≡ false → t ≡ textAt s k → r ≡ eqName t w → r ≡ fieldNamed s at w
+  unfolding fieldNamed pick
+  named-text q i f = rw (sym h, sym e ∙ q) (f ∙ ap (λ (z : Name). eqName z w) i)
+
+-- what is left of the fields passed decides
+module _ (s : List ℕ) (at fields : ℕ) (w : Name) (k left : ℕ) (r : namedFrom left s k w ≡ namedFrom fields s at w) where
+  pub named-none : left ≤ 0 → false ≡ namedFrom fields s at w
+  unfolding namedFrom
+  named-none h = let z : left ≡ 0 = omega arith in sym (ap (λ (l : ℕ). namedFrom l s k w) z) ∙ r
+
+  module _ (h : 0 < left) {b : Bool} (e : b ≡ fieldNamed s k w) where
+    first-named : namedFrom fields s at w ≡ pick b true (namedFrom (left - 1) s (afterItem s k) w)
+    unfolding namedFrom
+    first-named =
+        let z : left ≡ suc (left - 1) = omega arith in
+        sym r ∙ ap (λ (l : ℕ). namedFrom l s k w) z ∙ rw (sym e)
+
+    pub named-hit : b ≡ true → true ≡ namedFrom fields s at w
+    unfolding pick
+    named-hit q = rw (first-named, q)
+
+    pub named-miss : {k' : ℕ} → b ≡ false → k' ≡ afterItem s k → namedFrom (left - 1) s k' w ≡ namedFrom fields s at w
+    unfolding pick
+    named-miss q g = rw (first-named, q, g)
+
+-- a field's name, where it stands
+module _ (s : List ℕ) (at : ℕ) (x : PatternField) (n : ℕ) (g : readPatternField s at ≡ ok x n) where
+  name-stands : {k : ℕ} → k ≡ afterHead s at → (m : ℕ) × OptionAt readName s k (x .name) m
+  name-stands {k} h =
+      let v = pattern-field-at s at x n g in
+      let i : k ≡ v .name = h ∙ fields-head 2 s at tt (v .name) (v .opens) in
+      (v .pattern, subst (λ (z : ℕ). OptionAt readName s z (x .name) (v .pattern)) (sym i) (option-at readName s (v .name) (x .name) (v .pattern) (v .name-is)))
+
+abbrev pub nameIs : Option Name → Name → Bool
+nameIs none w = false
+nameIs (some n) w = eqName n w
+
+pub field-named-is : (s : List ℕ) (at : ℕ) (w : Name) (x : PatternField) (n : ℕ) → readPatternField s at ≡ ok x n → fieldNamed s at w ≡ nameIs (x .name) w
+unfolding fieldNamed pick
+field-named-is s at w x n g = go (name-stands s at x n g refl .1)
+  where
+    go : {k : ℕ} {o : Option Name} {m : ℕ} → OptionAt readName s k o m → pick (eqb (getD s k 0) 246) false (eqName (textAt s k) w) ≡ nameIs o w
+    go (absent q r) = rw (eq-eqb _ _ q)
+    go {k} (present {x = y} {n = m} q r) = rw (ne-eqb _ _ q, name-text s k y m r)
+
+module _ (s : List ℕ) (at first i : ℕ) {k : ℕ} {b : Bool} (h : k ≡ afterHead s at) (e : b ≡ eqb (getD s k 0) 246) where
+  pub name-absent : b ≡ true → NamesField s at first i Unnamed
+  unfolding namedOf nameIn
+  name-absent q = record { of = λ x n seen g p. go seen (name-stands s at x n g h .1) }
+    where
+      go : (seen : List Name) {o : Option Name} {m : ℕ} → OptionAt readName s k o m → unnamed ≡ nameIn seen o
+      go seen (absent u v) = refl
+      go seen (present u v) = no (let i = e ∙ ne-eqb _ _ u in cc)
+
+  module _ (q : b ≡ false) {t : Name} {r : Bool} (f : t ≡ textAt s k) (j : r ≡ namedFrom i s first t) where
+    name-there : (seen : List Name) → Passed s first i seen → {o : Option Name} {m : ℕ} → OptionAt readName s k o m → pick r (again (textAt s k)) (fresh (textAt s k)) ≡ nameIn seen o
+    unfolding nameIn
+    name-there seen p (absent u v) = no (let i = e ∙ eq-eqb _ _ u in cc)
+    name-there seen p (present {x = y} {n = m} u v) =
+        let w : t ≡ y = f ∙ name-text s k y m v in
+        rw (name-text s k y m v, j, w, p .are y)
+
+    pub name-again : r ≡ true → NamesField s at first i (Again k)
+    unfolding namedOf
+    name-again z = record { of = λ x n seen g p. rw (z, pick-true) at (name-there seen p (name-stands s at x n g h .1)) }
+
+    pub name-fresh : r ≡ false → NamesField s at first i (Fresh k)
+    unfolding namedOf
+    name-fresh z = record { of = λ x n seen g p. rw (z, pick-false) at (name-there seen p (name-stands s at x n g h .1)) }
+
+-- the parts of a field and of a declared field
+module _ (s : List ℕ) where
+  pattern-stands : (at : ℕ) {p : ℕ} → Past s (afterHead s at) p → (x : PatternField) (n : ℕ) → readPatternField s at ≡ ok x n → (m : ℕ) × (readPatternExpr s p ≡ ok (x .pattern) m)
+  pattern-stands at {p} o x n g =
+      let v = pattern-field-at s at x n g in
+      let i : p ≡ v .pattern = o .is ∙ ap (afterItem s) (fields-head 2 s at tt (v .name) (v .opens)) ∙ after-is (option-laws name-laws name-solid) s (o .each) (v .name) (x .name) (v .pattern) (v .name-is) in
+      (n, ap (readPatternExpr s) i ∙ v .pattern-is)
+
+  type-stands : (at : ℕ) {p : ℕ} → Past s (afterHead s at) p → (f : FieldDecl) (n : ℕ) → readFieldDecl s at ≡ ok f n → (m : ℕ) × (readTy s p ≡ ok (f .ty) m)
+  type-stands at {p} o f n g =
+      let v = field-decl-at s at f n g in
+      let i : p ≡ v .ty = o .is ∙ ap (afterItem s) (fields-head 2 s at tt (v .name) (v .opens)) ∙ after-is name-laws s (o .each) (v .name) (f .name) (v .ty) (v .name-is) in
+      (n, ap (readTy s) i ∙ v .ty-is)
+
+  declared-text : (at : ℕ) {k : ℕ} → k ≡ afterHead s at → (f : FieldDecl) (n : ℕ) → readFieldDecl s at ≡ ok f n → textAt s k ≡ f .name
+  declared-text at {k} h f n g =
+      let v = field-decl-at s at f n g in
+      ap (textAt s) (h ∙ fields-head 2 s at tt (v .name) (v .opens)) ∙ name-text s (v .name) (f .name) (v .ty) (v .name-is)
+
+-- the pattern against the declared type
+module _ (s : List ℕ) (at decl : ℕ) {k p t : ℕ} {fit : Fit} (h : k ≡ afterHead s decl) (o : Past s (afterHead s at) p) (u : Past s (afterHead s decl) t) (e : Accepts s p t fit) where
+  fit-is : (x : PatternField) (n : ℕ) (f : FieldDecl) (m : ℕ) → readPatternField s at ≡ ok x n → readFieldDecl s decl ≡ ok f m → unfitOf s fit ≡ patternExprCompatible (x .pattern) (f .ty)
+  fit-is x n f m g i =
+      let a = pattern-stands s at o x n g in
+      let b = type-stands s decl u f m i in
+      e .of (x .pattern) (a .0) (f .ty) (b .0) (a .1) (b .1)
+
+  pub fits-fine : fit ≡ Fine → FitsField s at decl Nothing
+  unfolding unfitOf blameOf blame
+  fits-fine q = record { of = λ x n f m g i. rw (sym (fit-is x n f m g i), q) }
+
+  pub fits-not : {c : Cause} → fit ≡ Unfit c → FitsField s at decl (Found (Field k) c)
+  unfolding unfitOf blameOf blame withinOf
+  fits-not q = record { of = λ x n f m g i. rw (sym (fit-is x n f m g i), q, declared-text s decl h f m i) }
+
+-- a pair that is put into a table, and one past its end
+pub pair-out : (table : List ℕ) (w a b : ℕ) → length table ≤ w → table ≡ set (set table w a) (w + 1) b
+pair-out table w a b h =
+    let i : length table ≤ w + 1 = omega arith in
+    rw (set-out table w a h, set-out table (w + 1) b i)
+
+pub pair-in : (table : List ℕ) (w a b : ℕ) {table′ table″ : List ℕ} → table′ ≡ set table w a → table″ ≡ set table′ (w + 1) b → table″ ≡ set (set table w a) (w + 1) b
+pair-in table w a b e q = q ∙ ap (λ (l : List ℕ). set l (w + 1) b) e
+
+-- what a field makes by itself
+orElse-none : (o : Option causes.Blame) → orElse o (judged none) ≡ judged o
+unfolding orElse
+orElse-none none = refl
+orElse-none (some b) = refl
+
+not-unnamed : (m : Bool) (w : Name) → unnamed ≡ pick m (again w) (fresh w) → ⊥
+unfolding pick
+not-unnamed true w e = no (cc)
+not-unnamed false w e = no (cc)
+
+-- a name that is one of those, and one that is not
+is-again : {v : Name} (m : Bool) (w : Name) → again v ≡ pick m (again w) (fresh w) → (m ≡ true) × (v ≡ w)
+unfolding pick
+is-again true w e = (refl, cc)
+is-again false w e = no (cc)
+
+is-fresh : {v : Name} (m : Bool) (w : Name) → fresh v ≡ pick m (again w) (fresh w) → (m ≡ false) × (v ≡ w)
+unfolding pick
+is-fresh true w e = no (cc)
+is-fresh false w e = (refl, cc)
+
+module _ (s : List ℕ) (at decl first i : ℕ) {name : Naming} (table : List ℕ) (w : ℕ) (a : NamesField s at first i name) where
+  pub judge-unnamed : {b : Blame} → name ≡ Unnamed → FitsField s at decl b → JudgesField s at decl first i table w (record { blame = b; words = 0 }) table
+  unfolding namedOf nameIn judgeField
+  judge-unnamed {b} q e = record {
+    few = omega arith;
+    of = λ x n f m seen g d p. go seen x f (x .name) (sym (ap (namedOf s) q) ∙ a .of x n seen g p) (e .of x n f m g d);
+  }
+    where
+      go : (seen : List Name) (x : PatternField) (f : FieldDecl) (o : Option Name) → unnamed ≡ nameIn seen o → blameOf s b ≡ blame (field (f .name)) (patternExprCompatible (x .pattern) (f .ty)) → Binds s table w (judgeField noMore seen f x o) (record { blame = b; words = 0 }) table
+      go seen x f none z i = rw orElse-none (record { fault = i; pairs = []; are = none-bound; many = refl; words = refl })
+      go seen x f (some n) z i = absurd (not-unnamed (member n seen) n z)
+
+  pub judge-again : {k : ℕ} → name ≡ Again k → JudgesField s at decl first i table w (record { blame = Found Alone (DuplicateBinding k); words = 0 }) table
+  unfolding namedOf nameIn judgeField pick blameOf withinOf causeOf blame
+  judge-again {k} q = record {
+    few = omega arith;
+    of = λ x n f m seen g d p. go seen x f (x .name) (sym (ap (namedOf s) q) ∙ a .of x n seen g p);
+  }
+    where
+      go : (seen : List Name) (x : PatternField) (f : FieldDecl) (o : Option Name) → again (textAt s k) ≡ nameIn seen o → Binds s table w (judgeField noMore seen f x o) (record { blame = Found Alone (DuplicateBinding k); words = 0 }) table
+      go seen x f none z = no (cc)
+      go seen x f (some n) z =
+          let a = is-again (member n seen) n z in
+          rw (a .0) (record { fault = rw (a .1); pairs = []; are = none-bound; many = refl; words = refl })
+
+  pub judge-fresh : {k ty : ℕ} {table′ : List ℕ} {b : Blame} → name ≡ Fresh k → Past s (afterHead s decl) ty → table′ ≡ set (set table w k) (w + 1) ty → FitsField s at decl b → JudgesField s at decl first i table w (record { blame = b; words = 2 }) table′
+  unfolding namedOf nameIn judgeField pick bound
+  judge-fresh {k} {ty} {table′} {b} q o t e = record {
+    few = omega arith;
+    of = λ x n f m seen g d p.
+        let b = type-stands s decl o f m d in
+        go seen x f (x .name) (sym (ap (namedOf s) q) ∙ a .of x n seen g p) (e .of x n f m g d) (type-is s ty (f .ty) (b .0) (b .1));
+  }
+    where
+      go : (seen : List Name) (x : PatternField) (f : FieldDecl) (o : Option Name) → fresh (textAt s k) ≡ nameIn seen o → blameOf s b ≡ blame (field (f .name)) (patternExprCompatible (x .pattern) (f .ty)) → exprTypeAt s ty ≡ typeToExprType (f .ty) → Binds s table w (judgeField noMore seen f x o) (record { blame = b; words = 2 }) table′
+      go seen x f none z i y = no (cc)
+      go seen x f (some n) z i y =
+          let a = is-fresh (member n seen) n z in
+          rw (a .0, orElse-none) (record { fault = i; pairs = k ∷ (ty ∷ []); are = more-bound (a .1) y none-bound; many = refl; words = t ∙ rw (add-one w) })
+
+-- the count of a list
+module _ (s : List ℕ) (at : ℕ) {a : Answer} (e : a ≡ answer (readCount maxList s at)) where
+  pub counted : {c : ℕ} {first : Cursor} → a ≡ Got c first → Counted s at c
+  unfolding countOf
+  counted {c} {first} q =
+      let r = num _ e q in
+      record { is = rw r; few = count-kind s at maxList c (first .at) r .1 }
+
+  pub counted-none : {f : Fault} {p : ℕ} → a ≡ Refused f p → Counted s at 0
+  unfolding countOf
+  counted-none q = record { is = rw (out _ e q); few = omega arith }
