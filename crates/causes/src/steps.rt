@@ -88,12 +88,24 @@ fn set_up(doc: &[u8], s: Step, names: &mut [usize], enums: &mut [usize], t: Stat
     out
 }
 
+// The sum of two counts; a million where one is larger.
+fn together(a: usize, b: usize) -> usize {
+    if 1000000 < a {
+        return 1000000;
+    }
+    if 1000000 < b {
+        return 1000000;
+    }
+    a + b
+}
+
 // A pattern: its bindings stand after the variables.
-fn pattern(doc: &[u8], s: Step, names: &mut [usize], t: State) -> State {
+fn bind(doc: &[u8], s: Step, names: &mut [usize], t: State) -> State {
+    let b = typing::validate_event_pattern(doc, s.at, t.events, names, t.vars);
+    let blame = b.blame;
     let mut out = t;
-    let k = t.vars;
-    out.bound = k;
-    out.given = 0;
+    out.bound = together(t.vars, b.words);
+    out.given = typing::blame_number(doc, blame);
     out
 }
 
@@ -125,7 +137,7 @@ fn advance(doc: &[u8], s: Step, names: &mut [usize], enums: &mut [usize], t: Sta
         return set_up(doc, s, names, enums, t);
     }
     if s.kind == 5 {
-        return pattern(doc, s, names, t);
+        return bind(doc, s, names, t);
     }
     let mut out = t;
     out.given = ask(doc, s, names, enums, t);
@@ -164,10 +176,11 @@ fn replay_with(
     let mut state = start();
     let mut i: usize = 0;
     while i < steps.len() / 4 {
-        let s = step_of(word_at(steps, 4 * i));
+        let at = 4 * i;
+        i += 1;
+        let s = step_of(word_at(steps, at));
         state = advance(doc, s, names, enums, state);
         t = note(t, s, state.given);
-        i += 1;
     }
     t
 }

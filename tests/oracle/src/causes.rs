@@ -337,6 +337,18 @@ pub fn counts(records: &[Record]) -> BTreeMap<(Kind, u32), usize> {
     counts
 }
 
+/// The line that the replay prints when it answers all as is due.
+fn due_line(records: &[Record]) -> String {
+    let steps = records.iter().flat_map(|record| &record.steps);
+    let judged: Vec<&Step> = steps.filter(|step| step.kind > Kind::Outputs).collect();
+    let sound = judged.iter().filter(|step| step.due == 0).count();
+    format!(
+        "{} documents: {sound} items without a fault, {} with one, 0 answered otherwise",
+        records.len(),
+        judged.len() - sound
+    )
+}
+
 /// Counts by kind and cause; a dash where a kind can't give a cause.
 pub fn report(records: &[Record]) {
     let counts = counts(records);
@@ -357,6 +369,5 @@ pub fn report(records: &[Record]) {
         let of = |due| counts.get(&(kind, due)).unwrap_or(&0);
         println!("{name:>14}{:>11}{:>11}", of(1), of(0));
     }
-    let steps: usize = records.iter().map(|record| record.steps.len()).sum();
-    println!("\n{} documents, {steps} steps", records.len());
+    println!("\nwhat the replay is to print:\n{}", due_line(records));
 }
