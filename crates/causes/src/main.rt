@@ -5,6 +5,7 @@
 mod judge;
 mod steps;
 mod tally;
+mod timed;
 
 use steps::replay_steps;
 use tally::Tally;
@@ -90,7 +91,7 @@ fn replay_one(fd: i32, space: &mut [u8], t: Tally) -> Tally {
 fn replay(fd: i32, space: &mut [u8]) -> Tally {
     let mut t = tally::fresh();
     let mut i: u64 = 0;
-    while i < 10000 {
+    while i < 1000000 {
         t = replay_one(fd, space, t);
         i += 1;
     }
@@ -104,4 +105,5 @@ fn main() {
         report(replay(fd, &mut space));
         return;
     }
+    timed::run(fd, &mut space);
 }

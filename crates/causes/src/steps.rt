@@ -129,7 +129,14 @@ fn ask<'a>(doc: &'a [u8], s: Step, names: &'a [usize], enums: &'a [usize], t: St
     if enums.len() < e {
         return 255;
     }
-    number_of(doc, kind, s.at, t.outputs, &names[start..n], &enums[start..e])
+    number_of(
+        doc,
+        kind,
+        s.at,
+        t.outputs,
+        &names[start..n],
+        &enums[start..e],
+    )
 }
 
 fn advance(doc: &[u8], s: Step, names: &mut [usize], enums: &mut [usize], t: State) -> State {

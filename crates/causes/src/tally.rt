@@ -51,7 +51,7 @@ pub(crate) fn counted(t: Tally, due: u32, given: u32) -> Tally {
 }
 
 // One more, as long as there is a larger number.
-fn more(n: u64) -> u64 {
+pub(crate) fn more(n: u64) -> u64 {
     if n < 18446744073709551615 {
         return n + 1;
     }

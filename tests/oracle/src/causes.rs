@@ -5,8 +5,8 @@
 use crate::decode::decode;
 use crate::encode::{itemise, Item};
 use crate::generate::cases::{self, cases};
-use crate::generate::planted;
 use crate::generate::rng::Rng;
+use crate::generate::{planted, valid};
 use crate::lang::ir::Ir;
 use crate::sites::{findings, Words};
 use std::collections::{BTreeMap, HashSet};
@@ -305,6 +305,12 @@ impl Kept {
 }
 
 impl Record {
+    /// The steps that type each expression, pattern, output and formula once.
+    pub fn typed(mut self) -> Record {
+        self.steps.retain(|step| step.kind <= Kind::Assumption);
+        self
+    }
+
     /// Its bytes in the file.
     fn file_bytes(&self) -> usize {
         8 + self.bytes.len() + 4 * self.steps.len()
@@ -337,8 +343,22 @@ pub fn counts(records: &[Record]) -> BTreeMap<(Kind, u32), usize> {
     counts
 }
 
+/// So many documents: three planted ones, then one of any content.
+pub fn many(count: usize, seed: u64) -> Vec<Record> {
+    let rng = &mut Rng::new(seed);
+    let mut records = Vec::new();
+    for place in 0..count {
+        let size = rng.between(100, 2_000);
+        records.push(record(&match place % 4 {
+            3 => valid::document(rng, size),
+            _ => planted::document(rng),
+        }));
+    }
+    records
+}
+
 /// The line that the replay prints when it answers all as is due.
-fn due_line(records: &[Record]) -> String {
+pub fn due_line(records: &[Record]) -> String {
     let steps = records.iter().flat_map(|record| &record.steps);
     let judged: Vec<&Step> = steps.filter(|step| step.kind > Kind::Outputs).collect();
     let sound = judged.iter().filter(|step| step.due == 0).count();

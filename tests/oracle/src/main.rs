@@ -34,9 +34,12 @@ const USAGE: &str = "usage:
   oracle same DIR           fail unless DIR/vectors.bin is what `vectors` writes
   oracle causes DIR         write DIR/vectors.bin with causes, and print counts
   oracle same-causes DIR    fail unless DIR/vectors.bin is what `causes` writes
+  oracle items DIR N SEED   write DIR/vectors.bin with N other documents, and
+                            print what the replay is to print
   oracle compare [N [SEED]] the library beside the decoder on N documents
   oracle sweep              the same on every small change of small documents
   oracle bench              time of the library beside the decoder
+  oracle typing PROGRAM DIR time of typing beside reading, by the replay's program
   oracle write DIR          write the benchmark documents
   oracle table [N [SEED]]   what the original finds on N planted documents";
 
@@ -51,11 +54,15 @@ fn main() -> ExitCode {
         ["same", dir] => same_vectors(Path::new(dir)),
         ["causes", dir] => write_causes(Path::new(dir)),
         ["same-causes", dir] => same_causes(Path::new(dir)),
+        ["items", dir, count, seed] => {
+            number(count).and_then(|n| write_items(Path::new(dir), n, number(seed)?))
+        }
         ["compare"] => compare(200_000, 1),
         ["compare", count] => number(count).and_then(|n| compare(n, 1)),
         ["compare", count, seed] => number(count).and_then(|n| compare(n, number(seed)?)),
         ["sweep"] => sweep(),
         ["bench"] => library().map(bench::bench),
+        ["typing", program, dir] => bench::typing(Path::new(program), Path::new(dir)),
         ["write", dir] => write_samples(Path::new(dir)),
         ["table"] => table(20_000, 1),
         ["table", count] => number(count).and_then(|n| table(n, 1)),
@@ -121,6 +128,16 @@ fn same_causes(dir: &Path) -> Done {
     let all = causes::records();
     same_file(dir, causes::FILE, &causes::file(&all))?;
     println!("{} documents with causes, the same", all.len());
+    Ok(())
+}
+
+fn write_items(dir: &Path, count: usize, seed: u64) -> Done {
+    let all = causes::many(count, seed);
+    let path = dir.join(causes::FILE);
+    fs::create_dir_all(dir)
+        .and_then(|()| fs::write(&path, causes::file(&all)))
+        .map_err(|e| format!("{}: {e}", path.display()))?;
+    println!("{}", causes::due_line(&all));
     Ok(())
 }
 

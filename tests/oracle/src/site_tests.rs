@@ -5,8 +5,10 @@ use crate::decode::decode;
 use crate::encode::encode;
 use crate::generate::build::*;
 use crate::generate::cases::{self, cases, pairs, sound};
-use crate::generate::seeds;
+use crate::generate::rng::Rng;
+use crate::generate::{seeds, valid};
 use crate::lang::ir::*;
+use crate::samples::samples;
 use crate::sites::{findings, Words};
 use crate::table::Table;
 use std::collections::BTreeSet;
@@ -536,6 +538,20 @@ fn full_tables() {
 #[test]
 fn planted_documents() {
     assert!(Table::of(3_000, 3).is_whole());
+}
+
+/// The parts make the whole, whatever the document holds.
+#[test]
+fn random_documents() {
+    let rng = &mut Rng::new(11);
+    for _ in 0..300 {
+        let size = rng.between(0, 3_000);
+        words(&valid::document(rng, size));
+    }
+    for sample in samples() {
+        let ir = decode(&sample.bytes).expect("it is accepted");
+        assert!(findings(&ir).errors.is_empty());
+    }
 }
 
 #[test]
