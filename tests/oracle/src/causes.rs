@@ -240,12 +240,13 @@ impl Walk {
 }
 
 /// How often each kind has each of its causes, at least.
-pub const LEAST: usize = 4;
+pub const LEAST: usize = 3;
 
 /// The file has at most so many bytes.
-pub const MOST_BYTES: usize = 290_000;
+pub const MOST_BYTES: usize = 298_000;
 
-/// The kept records, none twice: every case; full tables; planted documents until each
+/// The kept records, none twice: every case; edges; every operator on every
+/// pair of types; full tables; planted documents until each
 /// kind has each of its causes often enough; and more of them as they come.
 pub fn records() -> Vec<Record> {
     let rng = &mut Rng::new(SEED);
@@ -254,6 +255,10 @@ pub fn records() -> Vec<Record> {
         assert_eq!(findings(&case.ir).words(), case.due);
         kept.add(record(&case.ir));
     }
+    for ir in cases::edges() {
+        kept.add(record(&ir));
+    }
+    kept.operators();
     kept.add(record(&cases::full()));
     for (kind, fault) in wanted() {
         let due = if fault.1 == 0 { 1 } else { fault.1 };
@@ -295,6 +300,23 @@ impl Kept {
         if self.seen.insert(record.bytes.clone()) {
             self.bytes += record.file_bytes();
             self.records.push(record);
+        }
+    }
+
+    /// Every operator, and those without a cause compared with other types.
+    fn operators(&mut self) {
+        let all = cases::operators();
+        let mut typed = Vec::new();
+        for (ir, inits) in cases::with_inits(&all).iter().zip(all.chunks(250)) {
+            let record = record(ir);
+            let steps = record.steps.iter().filter(|step| step.kind == Kind::Init);
+            let dues = steps.skip(cases::sound().vars.len()).map(|step| step.due);
+            let sound = inits.iter().zip(dues).filter(|(_, due)| *due == 0);
+            typed.extend(sound.flat_map(|(init, _)| cases::compared(init)));
+            self.add(record);
+        }
+        for ir in cases::with_inits(&typed) {
+            self.add(record(&ir));
         }
     }
 

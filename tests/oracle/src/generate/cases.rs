@@ -385,6 +385,165 @@ fn of_lists() -> Vec<Case> {
     ]
 }
 
+/// The sound module with these initial values of variables after its own, as
+/// many in a document as may be.
+pub fn with_inits(inits: &[Expr]) -> Vec<Ir> {
+    let module = |inits: &[Expr]| {
+        let mut module = sound();
+        let more = inits.iter().map(|init| var("v", Type::Bool, init.clone()));
+        module.vars.extend(more);
+        ir(vec![module])
+    };
+    inits.chunks(250).map(module).collect()
+}
+
+/// Every operator on operands of every type: two widths, a literal, a bool,
+/// an enum, and State by its own name and by `state`.
+pub fn operators() -> Vec<Expr> {
+    let operands = [
+        path(&["x"]),
+        path(&["y"]),
+        int(1),
+        path(&["f"]),
+        path(&["m"]),
+        path(&["State", "A"]),
+        path(&["state"]),
+    ];
+    let mut all = Vec::new();
+    for left in &operands {
+        all.extend(UNARY_OPS.map(|op| unary(op, left.clone())));
+        for right in &operands {
+            all.extend(BIN_OPS.map(|op| binary(op, left.clone(), right.clone())));
+        }
+    }
+    all
+}
+
+/// The expression compared with a value of each type that an operator makes.
+pub fn compared(expr: &Expr) -> [Expr; 3] {
+    let with = |name| binary(BinOp::Eq, expr.clone(), path(&[name]));
+    ["x", "y", "f"].map(with)
+}
+
+/// Version strings, bounds, guards that contradict themselves or nearly so,
+/// and literals on widths, at their edges.
+pub fn edges() -> Vec<Ir> {
+    let one = |change: &dyn Fn(&mut Module)| {
+        let mut module = sound();
+        change(&mut module);
+        ir(vec![module])
+    };
+    let mut all = Vec::new();
+    for version in VERSIONS {
+        all.push(one(&|m| m.version = Some(text(version))));
+    }
+    all.push(one(&|m| m.properties = bounds()));
+    all.push(one(&|m| {
+        for guard in guards() {
+            m.transitions.push(Transition {
+                guard: Some(guard),
+                ..third()
+            });
+        }
+    }));
+    all.push(one(&|m| {
+        for (place, width) in WIDTHS.iter().enumerate() {
+            let name = format!("w{place}");
+            let declared = with_fields(&name, &[("w", bit(*width))]);
+            m.events[0].variants.push(declared);
+            for value in around(*width) {
+                let fields = vec![pattern(None, PatternExpr::Int { value })];
+                m.transitions.push(Transition {
+                    pattern: event("E", Some(field_pattern(&name, fields))),
+                    ..step("A", "E", "B")
+                });
+            }
+        }
+    }));
+    all
+}
+
+const VERSIONS: [&str; 16] = [
+    "", ".", "1", "1.", ".1", "1.0", "1.2.", "1..2", "1.2.3", "1.2.3.", "1.2.3.4", "10.20.30",
+    "1.a", "1.0 ", "/.:", "09.90",
+];
+
+const WIDTHS: [u32; 8] = [0, 1, 8, 32, 63, 64, 65, u32::MAX];
+
+/// Values next to the largest of a width.
+fn around(width: u32) -> Vec<u64> {
+    match width {
+        0..=63 => vec![0, 1, (1 << width) - 1, 1 << width, u64::MAX],
+        _ => vec![0, 1 << 63, u64::MAX],
+    }
+}
+
+/// Equalities joined in many shapes, some of which contradict each other.
+fn guards() -> Vec<Expr> {
+    let is = |name: &str, value| binary(BinOp::Eq, path(&[name]), int(value));
+    let turned = |name: &str, value| binary(BinOp::Eq, int(value), path(&[name]));
+    let and = |left, right| binary(BinOp::LogicAnd, left, right);
+    let or = |left, right| binary(BinOp::LogicOr, left, right);
+    let not = |inner| unary(UnaryOp::Not, inner);
+    let other = |op| binary(op, path(&["x"]), int(2));
+    vec![
+        is("x", 1),
+        and(is("x", 1), is("x", 1)),
+        and(is("x", 1), is("x", 2)),
+        and(is("x", 2), turned("x", 1)),
+        and(turned("x", 0), turned("x", u64::MAX)),
+        and(is("x", 1), is("y", 2)),
+        and(and(is("x", 1), is("y", 2)), and(is("x", 1), is("y", 2))),
+        and(and(is("x", 1), is("y", 2)), and(is("y", 3), is("x", 1))),
+        and(is("x", 1), and(boolean(true), and(is("y", 1), is("x", 2)))),
+        and(and(and(is("x", 1), path(&["f"])), is("y", 1)), is("x", 2)),
+        and(is("k", 1), is("k", 2)),
+        and(is("state", 1), is("state", 2)),
+        or(is("x", 1), is("x", 2)),
+        and(is("x", 1), or(is("x", 2), is("x", 3))),
+        and(is("x", 1), not(is("x", 2))),
+        not(and(is("x", 1), is("x", 2))),
+        and(is("x", 1), other(BinOp::NotEq)),
+        and(is("x", 1), other(BinOp::Le)),
+        binary(BinOp::BitAnd, is("x", 1), is("x", 2)),
+        and(
+            binary(BinOp::Eq, path(&["Mode", "on"]), int(1)),
+            binary(BinOp::Eq, path(&["Mode", "on"]), int(2)),
+        ),
+        and(
+            binary(BinOp::Eq, path(&["x"]), path(&["x"])),
+            binary(BinOp::Eq, int(1), int(2)),
+        ),
+        boolean(false),
+        boolean(true),
+        not(boolean(true)),
+        and(boolean(false), boolean(false)),
+    ]
+}
+
+/// Bounds of 0 and 1 in formulas of each kind.
+fn bounds() -> Vec<Property> {
+    let truth = || holds(boolean(true));
+    let mut formulas = Vec::new();
+    for bound in [0, 1, u64::MAX] {
+        formulas.push(over(3, bound, truth()));
+        formulas.push(over(4, bound, truth()));
+        formulas.push(over(4, bound, over(3, 0, truth())));
+        formulas.push(over(3, 1, over(4, bound, truth())));
+    }
+    for kind in 0..ONE_CHILD {
+        formulas.push(over(kind, 1, over(3, 0, truth())));
+        formulas.push(over(kind, 0, over(3, 1, truth())));
+    }
+    for kind in 0..TWO_CHILDREN {
+        formulas.push(join(kind, truth(), over(3, 0, truth())));
+        formulas.push(join(kind, over(3, 0, truth()), truth()));
+        formulas.push(join(kind, over(4, 0, truth()), truth()));
+    }
+    let named = |(n, formula)| property(&format!("p{n}"), formula);
+    formulas.into_iter().enumerate().map(named).collect()
+}
+
 /// A module with as many variables, enums, groups and bindings as there may
 /// be. The transitions' guards name the first and the last of each.
 pub fn full() -> Ir {

@@ -410,9 +410,7 @@ impl Typist<'_> {
     pub fn formula(&mut self, levels: usize) -> Formula {
         if levels <= 1 {
             return match self.rng.below(4) {
-                0 => Formula::InputIs {
-                    pattern: event(self.nowhere(), None),
-                },
+                0 => self.input_is(),
                 1 => self.output_has(),
                 _ => holds(self.sound(&Want::Bool, 3)),
             };
@@ -421,6 +419,22 @@ impl Typist<'_> {
         match self.rng.below(2) {
             0 => self.over(inner),
             _ => join(self.rng.below(TWO_CHILDREN), self.formula(1), inner),
+        }
+    }
+
+    /// An input pattern that binds nothing; its names may be declared nowhere.
+    fn input_is(&mut self) -> Formula {
+        let literal = PatternExpr::Int { value: 0 };
+        let bind = PatternExpr::Bind { name: text("k") };
+        let fields = vec![pattern(None, literal), pattern(None, bind)];
+        let variant = match self.rng.below(4) {
+            0 => None,
+            1 => Some(unit_pattern("go")),
+            2 => Some(field_pattern("data", Vec::new())),
+            _ => Some(field_pattern(self.nowhere(), fields)),
+        };
+        Formula::InputIs {
+            pattern: event(self.nowhere(), variant),
         }
     }
 
