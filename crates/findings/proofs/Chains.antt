@@ -46,7 +46,7 @@ module _ {S : Type 0} (Starts : S → Name → Type 0) (starts : S → Name → 
   chain-more s [] a m h t = ((m, t, tt), refl)
   chain-more s (b ∷ c) a m h t = let r = chain-more (ends b) c a m (h .2) t in ((h .0, h .1, r .0), r .1)
 
-  leads-more : (s n : Name) (a : S) → List·Memᴰ a all → Leads Starts ends all s n → Starts a n → Leads Starts ends all s (ends a)
+  pub leads-more : (s n : Name) (a : S) → List·Memᴰ a all → Leads Starts ends all s n → Starts a n → Leads Starts ends all s (ends a)
   leads-more s n a m l t =
       let r = chain-more s (l .0) a m (l .1) (subst (λ x. Starts a x) (sym (l .2)) t) in
       (l .0 ++ (a ∷ []), r .0, r .1)

@@ -23,8 +23,8 @@ use Rattle.findings.specs.Noting.{Noted}
 use Rattle.findings.specs.Scene.{Reads, field, Rows}
 use Rattle.findings.specs.WarningPromises.{NotesGuardImpossible, NotesImpossible}
 use Rattle.findings.proofs.NoteLaws.{note-nothing, note-as}
-use Rattle.findings.proofs.EachLaws.{Left, left-all, eachFrom, each-turn, each-done}
-use Rattle.findings.proofs.PresentLaws.{not-given, is-given, entry-of}
+use Rattle.findings.proofs.EachLaws.{Left, left-all, get-some, eachFrom, each-turn, each-done}
+use Rattle.findings.proofs.OptionLaws.{not-given, is-given}
 
 module _ (s : List ℕ) (owner : ℕ) (o : List ℕ) (skip n at i : ℕ) {b : Bool} (e : b ≡ eqb (getD s at 0) 246) where
   abbrev Notes : ℕ → List ℕ → Type 0
@@ -32,15 +32,15 @@ module _ (s : List ℕ) (owner : ℕ) (o : List ℕ) (skip n at i : ℕ) {b : Bo
 
   pub guard-absent : b ≡ true → Notes n o
   unfolding impossibleGuard
-  guard-absent q = record { of = λ g k. rw (not-given readTopExpr e q k) (note-nothing owner o skip n) }
+  guard-absent q = record { of = λ g k. rw (not-given readTopExpr s at k e q) (note-nothing owner o skip n) }
 
   -- what is noted where a guard is given
   module _ (q : b ≡ false) {l : Bool} (f : LiteralFalse 32 s at l) where
     by-guard : {r : ℕ} {o′ : List ℕ} (xs : List Note) → ((x : Expr) (m : ℕ) → readTopExpr s at ≡ ok x m → xs ≡ impossibleGuard i (some x)) → Noted owner o skip n xs r o′ → Notes r o′
     by-guard xs h p = record {
       of = λ g k.
-          let v = is-given readTopExpr e q k in
-          note-as owner (impossibleGuard i g) (h (v .0) (v .2 .end) (v .2 .is) ∙ ap (impossibleGuard i) (sym (v .1))) p;
+          let v = is-given readTopExpr s at k e q in
+          note-as owner (impossibleGuard i g) (h (v .item) (v .reads .end) (v .reads .is) ∙ ap (impossibleGuard i) (sym (v .is))) p;
     }
 
     pub guard-false : {r : ℕ} {o′ : List ℕ} → l ≡ true → Noted owner o skip n (note 25 i 0 0 ∷ []) r o′ → Notes r o′
@@ -69,7 +69,7 @@ module _ (s : List ℕ) (owner : ℕ) (o : List ℕ) (skip n : ℕ) (rows : List
     unfolding impossible
     guards-more h e p = record {
       of = λ ts w q.
-          let x = entry-of ts i (omega arith) in
+          let x = get-some ts i (omega arith) in
           let k = w .at i (x .0) (x .1) .guard-is in
           each-turn impossible i ts (x .0) (x .1) (g .of ts w q) (p .of (x .0 .guard) (record { end = field rows i 4; is = ap (optional readTopExpr s) e ∙ k }));
     }

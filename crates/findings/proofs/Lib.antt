@@ -36,7 +36,6 @@ pub mod TransitionLaws
 pub mod ModuleLaws
 pub mod WalkLaws
 pub mod ReplyLaws
-pub mod PresentLaws
 pub mod ImpossibleLaws
 pub mod TouchLaws
 pub mod MentionLaws
@@ -50,3 +49,6 @@ pub mod ClashLaws
 pub mod AlikeLaws
 pub mod OrderLaws
 pub mod StateTurns
+pub mod DeadLaws
+pub mod ReachLaws
+pub mod UnledLaws

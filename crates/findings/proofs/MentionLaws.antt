@@ -33,8 +33,8 @@ use Rattle.findings.specs.Lists.{each}
 use Rattle.findings.specs.Mentions.{collectNames, guardNames, emitNames, touched, errorTouched, allTouched}
 use Rattle.findings.specs.Scene.{Reads, field, Rows}
 use Rattle.findings.specs.Touch.{Touched, Touches, outputNames, setName, setNames, TouchesExpr, TouchesArgs, TouchesOutput, TouchesEmits, TouchesSet, TouchesSets, Mentions, TouchesRow, TouchesRows, TouchesAll}
-use Rattle.findings.proofs.EachLaws.{drop-get}
-use Rattle.findings.proofs.PresentLaws.{not-given, is-given, entry-of}
+use Rattle.findings.proofs.EachLaws.{get-some, drop-get}
+use Rattle.findings.proofs.OptionLaws.{not-given, is-given}
 use Rattle.findings.proofs.TouchLaws.{touched-none, touched-then, touched-as}
 
 -- a list entry by entry: so many are left, the next at k
@@ -177,27 +177,27 @@ module _ (s : List ℕ) (at : ℕ) (names m : List ℕ) where
   module _ {b : Bool} (e : b ≡ eqb (getD s at 0) 246) where
     pub guard-none : b ≡ true → Mentions readTopExpr guardNames s at names m m
     unfolding guardNames
-    guard-none q = record { of = λ x g. rw (not-given readTopExpr e q g) (touched-none s names m) }
+    guard-none q = record { of = λ x g. rw (not-given readTopExpr s at g e q) (touched-none s names m) }
 
     pub guard-some : {r : ℕ} {m′ : List ℕ} → b ≡ false → TouchesExpr s at names m r m′ 32 → Mentions readTopExpr guardNames s at names m m′
     unfolding guardNames readTopExpr
-    guard-some q t = record { of = λ x g. let v = is-given readTopExpr e q g in rw (v .1) (t .of (v .0) (v .2 .end) (v .2 .is)) }
+    guard-some q t = record { of = λ x g. let v = is-given readTopExpr s at g e q in rw (v .is) (t .of (v .item) (v .reads .end) (v .reads .is)) }
 
     pub error-none : b ≡ true → Mentions readOnError errorTouched s at names m m
     unfolding errorTouched
-    error-none q = record { of = λ x g. rw (not-given readOnError e q g) (touched-none s names m) }
+    error-none q = record { of = λ x g. rw (not-given readOnError s at g e q) (touched-none s names m) }
 
     pub error-some : {next emits r : ℕ} {m′ : List ℕ} → b ≡ false → next ≡ afterHead s at → Past s next emits → TouchesEmits s emits names m r m′ → Mentions readOnError errorTouched s at names m m′
     unfolding errorTouched
     error-some {next} {emits} q h p t = record {
       of = λ x g.
-          let v = is-given readOnError e q g in
-          let y = v .0 in
-          let k = v .2 .end in
-          let w = on-error-at s at y k (v .2 .is) in
+          let v = is-given readOnError s at g e q in
+          let y = v .item in
+          let k = v .reads .end in
+          let w = on-error-at s at y k (v .reads .is) in
           let i : next ≡ w .next-state = h ∙ fields-head 2 s at tt (w .next-state) (w .opens) in
           let j : emits ≡ w .emits = p .is ∙ ap (afterItem s) i ∙ after-is name-laws s (p .each) (w .next-state) (y .next-state) (w .emits) (w .next-state-is) in
-          rw (v .1) (t .of (y .emits) k (ap (listOf maxList readOutputExpr s) j ∙ w .emits-is));
+          rw (v .is) (t .of (y .emits) k (ap (listOf maxList readOutputExpr s) j ∙ w .emits-is));
     }
 
 -- transitions
@@ -222,7 +222,7 @@ module _ (s rows names m : List ℕ) where
     rows-more h t = record {
       of = λ ts w q.
           let v = g .of ts w q in
-          let x = entry-of ts i (omega arith) in
+          let x = get-some ts i (omega arith) in
           let d = drop-get ts i (x .0) (x .1) in
           (v .0 ++ touched (x .0), append-assoc (v .0) (touched (x .0)) (each touched (drop (i + 1) ts)) ∙ ap (λ (l : List Transition). v .0 ++ each touched l) (sym d) ∙ v .1, touched-then s names (v .2) (t .of (x .0) (w .at i (x .0) (x .1))));
     }

@@ -1,5 +1,5 @@
 -- A whole module: its tables, and its parts one after another.
-use Prim.Native.Nat.{ℕ, suc, _+_, _*_, _/_, _≤_}
+use Prim.Native.Nat.{ℕ, suc, _+_, _-_, _*_, _/_, _≤_}
 use mathlib.Core.Path.{_≡_, refl, sym, ap, subst, _∙_}
 use mathlib.Core.List.{List, [], _∷_, _++_}
 use mathlib.Core.Bool.{Bool, true, false, not}
@@ -27,8 +27,8 @@ use Rattle.findings.specs.Scene.{Reads, Opens}
 use Rattle.findings.specs.Promises.{ClaimsSet, FirstStates, NotesOpening, NotesTransitions, NotesOnError, NotesRepeats, NotesFormulas}
 use Rattle.findings.specs.PairPromises.{Printed, pairNotes, NotesPairs}
 use Rattle.findings.specs.WarningPromises.{NotesUnreachable, NotesDead, NotesUnused, NotesImpossible}
-use Rattle.findings.specs.Walks.{WalksModule}
-use Rattle.findings.specs.ModulePromises.{Names, NotesClosing, NotesErrors, NotesWarnings}
+use Rattle.findings.specs.Walks.{WalksNamed, WalksModule}
+use Rattle.findings.specs.ModulePromises.{Names, NotesFore, NotesMost, NotesClosing, NotesErrors, NotesDoubts, NotesWarnings}
 use Rattle.findings.specs.declared.module.Named.{Named}
 use Rattle.findings.specs.declared.rows.Listed.{Listed}
 use Rattle.findings.proofs.NoteLaws.{note-then, note-as}
@@ -79,43 +79,67 @@ unfolding isEmpty
 moves-is [] e q = q ∙ ap (ltb 0) e
 moves-is (x ∷ xs) e q = q ∙ ap (ltb 0) e ∙ lt-ltb 0 (suc (length xs)) (omega arith)
 
-pub errors-noted : (s : List ℕ) (owner : ℕ) {o o₁ o₂ o₃ o′ : List ℕ} {skip n a b c r : ℕ} {places rows prints : List ℕ} {found : Found} {count : ℕ} {moves : Bool} (table table′ : List ℕ) {k : ℕ} {enums properties : List ℕ} → moves ≡ ltb 0 count → NotesOpening s owner o skip n a o₁ places found moves (take k table) enums → NotesTransitions s owner o₁ skip a b o₂ places rows count found table k enums → take k table′ ≡ take k table → NotesPairs s owner o₂ skip b c o₃ rows prints count false → NotesClosing s owner o₃ skip c r o′ places found (take k table′) enums properties → NotesErrors s owner o skip n r o′ places found rows prints count (take k table) enums properties
-unfolding errors pairNotes
-errors-noted s owner table table′ v x y t z w = record {
-  of = λ m g rs ps e h f c.
-      let p = note-as owner _ (ap (opening m) (moves-is (m .transitions) e v)) (x .of m g h f) in
-      let q = y .of m g rs e h f in
-      let u = z .of (m .transitions) rs ps e in
-      note-then owner (note-then owner (note-then owner p q) u) (w .of m g h (rw t f) c);
+pub fore-noted : (s : List ℕ) (owner : ℕ) {o o₁ o′ : List ℕ} {skip n a r : ℕ} {places rows : List ℕ} {found : Found} {count : ℕ} {moves : Bool} (table : List ℕ) {k : ℕ} (vars : ℕ) {enums : List ℕ} → k ≡ 2 * vars → moves ≡ ltb 0 count → NotesOpening s owner o skip n a o₁ places found moves (take (k - 0) table) enums → NotesTransitions s owner o₁ skip a r o′ places rows count found table (2 * vars) enums → NotesFore s owner o skip n r o′ places found rows count (take (2 * vars) table) enums
+fore-noted s owner table {k} vars d v x y = record {
+  of = λ m g rs e h f.
+      let l : k - 0 ≡ 2 * vars = omega arith in
+      note-then owner (note-as owner _ (ap (opening m) (moves-is (m .transitions) e v)) (x .of m g h (rw l f))) (y .of m g rs e h f);
 }
 
-pub doubts-noted : (s : List ℕ) (owner : ℕ) {o o₁ o₂ o₃ o₄ o′ : List ℕ} {skip n a b c d r : ℕ} {places rows prints : List ℕ} {found : Found} {count p₄ p₅ : ℕ} → p₄ ≡ getD places 4 0 → NotesUnreachable s owner o skip n a o₁ rows count prints found p₄ → p₅ ≡ getD places 5 0 → NotesDead s owner o₁ skip a b o₂ rows count p₅ → NotesUnused s owner o₂ skip b c o₃ rows count places → NotesPairs s owner o₃ skip c d o₄ rows prints count true → NotesImpossible s owner o₄ skip d r o′ rows count → NotesWarnings s owner o skip n r o′ places found rows prints count
-unfolding warnings pairNotes
-doubts-noted s owner i x j y z u v = record {
+pub aft-noted : (s : List ℕ) (owner : ℕ) {o o′ : List ℕ} {skip n r : ℕ} {places : List ℕ} {found : Found} (table : List ℕ) {k : ℕ} (vars : ℕ) {enums properties : List ℕ} → k ≡ 2 * vars → NotesClosing s owner o skip n r o′ places found (take (k - 0) table) enums properties → NotesClosing s owner o skip n r o′ places found (take (2 * vars) table) enums properties
+aft-noted s owner table {k} vars d x = let l : k - 0 ≡ 2 * vars = omega arith in rw l at x
+
+pub most-noted : (s : List ℕ) (owner : ℕ) {o o₁ o′ : List ℕ} {skip n a r : ℕ} {places rows prints : List ℕ} {found : Found} {count : ℕ} {names enums : List ℕ} → NotesFore s owner o skip n a o₁ places found rows count names enums → NotesPairs s owner o₁ skip a r o′ rows prints count false → NotesMost s owner o skip n r o′ places found rows prints count names enums
+unfolding pairNotes
+most-noted s owner x z = record { of = λ m g rs ps e h f. note-then owner (x .of m g rs e h f) (z .of (m .transitions) rs ps e) }
+
+pub errors-noted : (s : List ℕ) (owner : ℕ) {o o₁ o′ : List ℕ} {skip n a r : ℕ} {places rows prints : List ℕ} {found : Found} {count : ℕ} (table table′ : List ℕ) (vars : ℕ) {enums properties : List ℕ} → NotesMost s owner o skip n a o₁ places found rows prints count (take (2 * vars) table) enums → take (2 * vars) table′ ≡ take (2 * vars) table → NotesClosing s owner o₁ skip a r o′ places found (take (2 * vars) table′) enums properties → NotesErrors s owner o skip n r o′ places found rows prints count (take (2 * vars) table) enums properties
+unfolding errors
+errors-noted s owner table table′ vars x t w = record { of = λ m g rs ps e h f c. note-then owner (x .of m g rs ps e h f) (w .of m g h (rw t f) c) }
+
+pub doubts-noted : (s : List ℕ) (owner : ℕ) {o o₁ o₂ o′ : List ℕ} {skip n a b r : ℕ} {places rows prints : List ℕ} {found : Found} {count p₄ p₅ : ℕ} → p₄ ≡ getD places 4 0 → NotesUnreachable s owner o skip n a o₁ rows count prints found p₄ → p₅ ≡ getD places 5 0 → NotesDead s owner o₁ skip a b o₂ rows count p₅ → NotesUnused s owner o₂ skip b r o′ rows count places → NotesDoubts s owner o skip n r o′ places found rows prints count
+doubts-noted s owner i x j y z = record {
   of = λ m g rs ps e h.
       note-then owner
       (note-then owner
-      (note-then owner
-      (note-then owner
       (x .of (states m) (m .initial-state) (m .transitions) h (moved i (g .initial-state-is)) rs ps e)
       (y .of (m .events) (m .transitions) (moved j (g .events-are)) rs e))
-      (z .of m g rs e))
-      (u .of (m .transitions) rs ps e))
-      (v .of (m .transitions) rs e);
+      (z .of m g rs e);
 }
 
+pub warnings-noted : (s : List ℕ) (owner : ℕ) {o o₁ o₂ o′ : List ℕ} {skip n a b r : ℕ} {places rows prints : List ℕ} {found : Found} {count : ℕ} → NotesDoubts s owner o skip n a o₁ places found rows prints count → NotesPairs s owner o₁ skip a b o₂ rows prints count true → NotesImpossible s owner o₂ skip b r o′ rows count → NotesWarnings s owner o skip n r o′ places found rows prints count
+unfolding warnings pairNotes
+warnings-noted s owner x u v = record {
+  of = λ m g rs ps e h. note-then owner (note-then owner (x .of m g rs ps e h) (u .of (m .transitions) rs ps e)) (v .of (m .transitions) rs e);
+}
+
+pub states-at : (s places : List ℕ) {p : ℕ} {found : Found} → p ≡ getD places 3 0 → FirstStates s p found → FirstStates s (getD places 3 0) found
+states-at s places {found} e x = subst (λ (k : ℕ). FirstStates s k found) e x
+
+-- the tables of names lie within their words
+pub enums-few : (s places table enums properties : List ℕ) {t : Named} → Names s places t table enums properties → t .enums ≤ 510
+enums-few s places table enums properties w = w .few-enums
+
+pub claims-few : (s places table enums properties : List ℕ) {t : Named} → Names s places t table enums properties → t .claims ≤ 1020
+claims-few s places table enums properties w = w .few-claims
+
 -- the tables and then both walks
-pub module-walked : (s : List ℕ) (owner at : ℕ) {o o′ p p′ : List ℕ} {skip n r leave k q : ℕ} {l : Listed} {places rows prints table enums properties : List ℕ} {found : Found} {t : Named} {p₃ : ℕ} → Opens s at l places rows → Printed s rows (l .count) prints → p₃ ≡ getD places 3 0 → FirstStates s p₃ found → Names s places t table enums properties → NotesErrors s owner o skip n r o′ places found rows prints (l .count) (take (2 * t .vars) table) (take (t .enums) enums) (take (t .claims) properties) → NotesWarnings s owner p leave k q p′ places found rows prints (l .count) → WalksModule s o skip n r o′ p leave k q p′ owner at (l .end)
+pub named-walked : (s : List ℕ) (owner : ℕ) {o o′ p p′ : List ℕ} {skip n r leave k q : ℕ} {places rows prints : List ℕ} (table enums properties : List ℕ) {found : Found} {count : ℕ} (v a b : ℕ) → FirstStates s (getD places 3 0) found → Names s places (record { vars = v; enums = a; claims = b }) table enums properties → NotesErrors s owner o skip n r o′ places found rows prints count (take (2 * v) table) (take (a - 0) enums) (take (b - 0) properties) → NotesWarnings s owner p leave k q p′ places found rows prints count → WalksNamed s o skip n r o′ p leave k q p′ owner places rows prints count
 unfolding states
-module-walked s owner at {found} x y i z w u v = record {
+named-walked s owner table enums properties {found} v a b z w u y = record {
+  of = λ m B g rs ps e.
+      let c = z .of (m .enums) (g .enums-are) in
+      let d = w .of m B g in
+      let i : a - 0 ≡ a = omega arith in
+      let j : b - 0 ≡ b = omega arith in
+      (u .of m g rs ps e c (rw i (d .agree)) (rw j (d .claims-are)), y .of m g rs ps e c);
+}
+
+pub module-walked : (s : List ℕ) (owner at : ℕ) {o o′ p p′ : List ℕ} {skip n r leave k q : ℕ} {l : Listed} {places rows prints : List ℕ} → Opens s at l places rows → Printed s rows (l .count) prints → WalksNamed s o skip n r o′ p leave k q p′ owner places rows prints (l .count) → WalksModule s o skip n r o′ p leave k q p′ owner at (l .end)
+module-walked s owner at x y w = record {
   of = λ m e g.
       let a = x .of m e g in
       let b = y .of (m .transitions) (a .rows-are) (a .count) in
-      let c = z .of (m .enums) (moved i (a .scene .enums-are)) in
-      let d = w .of m (a .bytes) (a .scene) in
-      record {
-        errors-are = u .of m (a .scene) (a .rows-are) b (a .count) c (d .agree) (d .claims-are);
-        warnings-are = v .of m (a .scene) (a .rows-are) b (a .count) c;
-        ends = a .end;
-      };
+      let c = w .of m (a .bytes) (a .scene) (a .rows-are) b (a .count) in
+      record { errors-are = c .0; warnings-are = c .1; ends = a .end };
 }

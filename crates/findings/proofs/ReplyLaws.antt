@@ -20,7 +20,7 @@ use Rattle.reading.proofs.Views.{document-at}
 use Rattle.findings.specs.Finding.{Finding, words}
 use Rattle.findings.specs.Findings.{allErrors, allWarnings, findings}
 use Rattle.findings.specs.Sheet.{Written}
-use Rattle.findings.specs.Walks.{WalksAll, Replies, Lines}
+use Rattle.findings.specs.Walks.{WalksAll, Counted, Filled, Replies, Lines, WarningLine}
 use Rattle.findings.specs.Reply.{tooMany, replyTo, sheetOf, lineOf, lineTo}
 use Rattle.findings.specs.declared.reply.Reply.{Reply}
 use Rattle.findings.specs.declared.reply.Reply.the-variants.{Counts, Refused, Short}
@@ -28,39 +28,49 @@ use Rattle.findings.specs.declared.reply.Line.{Line}
 use Rattle.findings.specs.declared.reply.Line.the-variants as line
 use Rattle.findings.proofs.SheetLaws.{then, put-whole, none, put-kth}
 
--- how many findings a walk counts
-module _ (s : List ℕ) {e e′ w w′ : List ℕ} {a b : ℕ} (t : WalksAll s e 0 0 a e′ w 0 0 b w′) where
-  counts : (x : Ir) (n : ℕ) → readDocument s ≡ ok x n → (a ≡ length (allErrors x)) × (b ≡ length (allWarnings x)) × (a + b ≡ length (findings x))
-  unfolding findings
-  counts x n g =
+pub counted : (s : List ℕ) {e e′ w w′ : List ℕ} {a b : ℕ} → WalksAll s e 0 0 a e′ w 0 0 b w′ → Counted s a b
+counted s t = record {
+  of = λ x n g.
       let u = t .of x n (document-at s x n g) in
       let p = u .errors-are .count in
       let q = u .warnings-are .count in
-      (omega arith, omega arith, omega (arith, length-append (allErrors x) (allWarnings x)))
+      (omega arith, omega arith);
+}
+
+pub filled : (s o o₁ o₂ : List ℕ) {p p′ q q′ : List ℕ} {a b₁ a₂ c d : ℕ} → WalksAll s o 0 0 c o₁ p 0 0 b₁ p′ → WalksAll s q 0 0 a₂ q′ o₁ 0 a d o₂ → Filled s o a o₂
+unfolding findings
+filled s o o₁ o₂ {a} {c} {d} u v = record {
+  of = λ x n g e.
+      let i = document-at s x n g in
+      let first = u .of x n i .errors-are in
+      let second = v .of x n i .warnings-are in
+      let m = first .count in
+      let z : a ≡ c = omega arith in
+      then first (subst (λ (y : ℕ). Written o₁ 0 y (allWarnings x) d o₂) z second) .buffer;
+}
+
+module _ (s : List ℕ) {a b : ℕ} (t : Counted s a b) where
+  both-counted : (x : Ir) (n : ℕ) → readDocument s ≡ ok x n → a + b ≡ length (findings x)
+  unfolding findings
+  both-counted x n g = let u = t .of x n g in omega (arith, u .0, u .1, length-append (allErrors x) (allWarnings x))
 
   pub reply-short : (o : List ℕ) → length o < 5 * (a + b) → Replies s o (Short (a + b)) o
   unfolding replyTo sheetOf tooMany
   reply-short o h = record {
     of = λ x n g.
-        let c = counts x n g .2 in
+        let c = both-counted x n g in
         let l : ltb (length o) (5 * length (findings x)) ≡ true = lt-ltb (length o) (5 * length (findings x)) (omega arith) in
         (rw l (ap Short c), rw l);
   }
 
-  pub reply-written : (o o₁ o₂ : List ℕ) (c d : ℕ) {p p′ q q′ : List ℕ} {b₁ a₂ : ℕ} → 5 * (a + b) ≤ length o → WalksAll s o 0 0 c o₁ p 0 0 b₁ p′ → WalksAll s q 0 0 a₂ q′ o₁ 0 a d o₂ → Replies s o (Counts a b) o₂
-  unfolding replyTo sheetOf tooMany findings
-  reply-written o o₁ o₂ c d h u v = record {
+  pub reply-written : (o o′ : List ℕ) → 5 * (a + b) ≤ length o → Filled s o a o′ → Replies s o (Counts a b) o′
+  unfolding replyTo sheetOf tooMany
+  reply-written o o′ h f = record {
     of = λ x n g.
-        let k = counts x n g in
-        let i = document-at s x n g in
-        let first = u .of x n i .errors-are in
-        let second = v .of x n i .warnings-are in
-        let m = first .count in
-        let z : c ≡ a = omega (arith, k .0) in
-        let both : Written o 0 0 (allErrors x ++ allWarnings x) d o₂ = then first (subst (λ (y : ℕ). Written o₁ 0 y (allWarnings x) d o₂) (sym z) second) in
-        let f = k .2 in
-        let l : ltb (length o) (5 * length (allErrors x ++ allWarnings x)) ≡ false = le-ltb (length o) (5 * length (allErrors x ++ allWarnings x)) (omega arith) in
-        (rw (l, k .0, k .1), rw l (both .buffer ∙ put-whole (allErrors x ++ allWarnings x) o (omega arith)));
+        let k = t .of x n g in
+        let c = both-counted x n g in
+        let l : ltb (length o) (5 * length (findings x)) ≡ false = le-ltb (length o) (5 * length (findings x)) (omega arith) in
+        (rw (l, k .0, k .1), rw l (f .of x n g (k .0) ∙ put-whole (findings x) o (omega arith)));
   }
 
 -- the document's verdict
@@ -127,17 +137,23 @@ module _ (s : List ℕ) (k : ℕ) {e e′ w w′ : List ℕ} {a b : ℕ} (t : Wa
         rw y (ap line.Missing c);
   }
 
-  pub line-warning : {f f′ p p′ : List ℕ} {skip c d : ℕ} → length p ≡ 5 → a ≤ k → k < a + b → WalksAll s f skip 0 c f′ p k a d p′ → Lines s k (wordsOf p′)
-  unfolding lineTo findings
-  line-warning {p} {p′} l h i v = record {
+  pub line-after : {r : Line} → a ≤ k → k < a + b → WarningLine s k a r → Lines s k r
+  line-after h i v = record {
     of = λ x n g.
-        let u = v .of x n (document-at s x n g) .warnings-are in
         let z = sizes x n g in
         let c = z .1 in
-        let m = length-append (allErrors x) (allWarnings x) in
-        let y : ltb k (length (allErrors x ++ allWarnings x)) ≡ true = lt-ltb k (length (allErrors x ++ allWarnings x)) (omega arith) in
-        rw (y, getD-back (allErrors x) (allWarnings x) k (k - a) none (omega (arith, z .0))) (words-line p′ (getD (allWarnings x) (k - a) none) (u .buffer ∙ put-kth (allWarnings x) p k a (k - a) l (omega arith) (omega (arith, z .0))));
+        v .of x n g (z .0) h (omega arith);
   }
+
+pub warning-line : (s : List ℕ) (k : ℕ) {f f′ p p′ : List ℕ} {a c d : ℕ} → length p ≡ 5 → WalksAll s f 0 0 c f′ p k a d p′ → WarningLine s k a (wordsOf p′)
+unfolding lineTo findings
+warning-line s k {p} {p′} {a} l v = record {
+  of = λ x n g e h i.
+      let u = v .of x n (document-at s x n g) .warnings-are in
+      let m = length-append (allErrors x) (allWarnings x) in
+      let y : ltb k (length (allErrors x ++ allWarnings x)) ≡ true = lt-ltb k (length (allErrors x ++ allWarnings x)) i in
+      rw (y, getD-back (allErrors x) (allWarnings x) k (k - a) none (omega arith)) (words-line p′ (getD (allWarnings x) (k - a) none) (u .buffer ∙ put-kth (allWarnings x) p k a (k - a) l (omega arith) (omega arith)));
+}
 
 module _ (s : List ℕ) (k : ℕ) {v : Verdict} (e : v ≡ verdict (readDocument s)) where
   pub line-refused : {f : Fault} {p : ℕ} → v ≡ verdict.Refused f p → line.Refused f p ≡ lineTo k (readDocument s)

@@ -8,6 +8,8 @@ use mathlib.Core.List.{List, [], _∷_, _++_, map, append-assoc, append-nil}
 use native.Mathlib.Omega.{arith}
 use lib.ListN.{length, getD, set, length-set}
 use lib.Seq.{getD-set-same, getD-set-other}
+use lib.Dec.{eqb}
+use borrow.Author.Tests.{eqb-true, eqb-false}
 use Rattle.reading.specs.Read.{Reader, ok, pick}
 use Rattle.reading.specs.Limits.{maxPath, maxList}
 use Rattle.reading.specs.Item.{readCase, readCount, readTag}
@@ -39,7 +41,6 @@ use Rattle.typing.proofs.EnvLaws.{entry, after-is}
 use Rattle.typing.proofs.TypeLaws.{fields-are}
 use Rattle.findings.specs.Lists.{each}
 use Rattle.findings.specs.Mentions.{soleName, collectNames}
-use Rattle.findings.proofs.PresentLaws.{last-or-before}
 use Rattle.findings.specs.Touch.{varAt, Touched, VarTouched, Touches, TouchesExpr, TouchesUnary, TouchesBinary}
 
 pub member-append : (w : Name) (xs ys : List Name) → member w (xs ++ ys) ≡ pick (member w xs) true (member w ys)
@@ -105,6 +106,14 @@ module _ (s : List ℕ) (key : ℕ) (w : Name) (k : ℕ) (m : List ℕ) where
       here = λ l. ap (λ (x : Bool). cond x 1 (getD m k 0)) (sym q ∙ e ∙ ap (λ (x : Name). eqName x w) t);
       other = λ j d. refl;
     }
+
+-- the last of the numbers below the next one, or one before it
+pub last-or-before : (j k : ℕ) → j < k + 1 → (j ≡ k) ⊎ (j < k)
+last-or-before j k h = go (eqb j k) refl
+  where
+    go : (b : Bool) → eqb j k ≡ b → (j ≡ k) ⊎ (j < k)
+    go true e = inl (eqb-true j k e)
+    go false e = inr (let d = eqb-false j k e in omega arith)
 
 -- one name: the first k variables are done
 module _ (s names : List ℕ) (w : Name) (m : List ℕ) where

@@ -35,11 +35,11 @@ use Rattle.findings.specs.Mentions.{allTouched}
 use Rattle.findings.specs.Warnings.{unused}
 use Rattle.findings.specs.Noting.{Noted}
 use Rattle.findings.specs.Scene.{Reads, Scene}
-use Rattle.findings.specs.Touch.{varAt, TouchesAll, VarsFilled, Marked, MarksUsed, NotesUnmarked}
+use Rattle.findings.specs.Touch.{varAt, TouchesAll, PairsFilled, Marked, MarksUsed, NotesUnmarked}
 use Rattle.findings.specs.WarningPromises.{NotesUnused}
 use Rattle.findings.proofs.NoteLaws.{note-as}
-use Rattle.findings.proofs.EachLaws.{Left, left-all, eachFrom, each-turn, each-done}
-use Rattle.findings.proofs.PresentLaws.{entry-of}
+use Rattle.findings.proofs.EachLaws.{Left, left-all, get-some, eachFrom, each-turn, each-done}
+use Rattle.findings.proofs.ClaimTables.{pairs-few, filled-front}
 
 -- the name of variable i, by the table of a list of variables
 module _ (s : List ℕ) (B : Bytes s) where
@@ -63,27 +63,15 @@ module _ (s : List ℕ) (B : Bytes s) where
       let l = list-at readVarDecl s maxList at vs (g .end) (g .is) in
       rw (l .opens) (pairs-length (length vs) s (l .first), var-from vs (l .first) (g .end) (l .entries-are))
 
-pairs-few : (s : List ℕ) (at : ℕ) → length (pairsAt s at) ≤ 510
-unfolding pairsAt pairsOf
-pairs-few s at = go (readCount maxList s at) refl
-  where
-    go : (r : Read ℕ) → readCount maxList s at ≡ r → length (pairsOf s r) ≤ 510
-    go (ok c k) e = omega (arith, pairs-length c s k, count-kind s at maxList c k e .1)
-    go (refused f p) e = omega arith
-
 pub filled-few : (s : List ℕ) (at : ℕ) (table : List ℕ) (r : ℕ) (table′ : List ℕ) → Filled table (pairsAt s at) r table′ → r ≤ 510
 filled-few s at table r table′ f = omega (arith, pairs-few s at, f .many)
-
--- the words that were filled are the pairs
-filled-part : (table pairs table′ : List ℕ) (r : ℕ) → Filled table pairs r table′ → length pairs ≤ length table → take r table′ ≡ pairs
-filled-part table pairs table′ r f h = ap (take r) (f .words ∙ sets-eq pairs table 0 (omega arith)) ∙ take-at pairs (drop (0 + length pairs) table) r (sym (f .many))
 
 getElem-below : {A : Type 0} (xs : List A) (i : ℕ) (x : A) → getElem? xs i ≡ some x → i < length xs
 getElem-below [] i x e = no (cc)
 getElem-below (y ∷ xs) zero x e = omega arith
 getElem-below (y ∷ xs) (suc i) x e = let h = getElem-below xs i x e in omega arith
 
-module _ (s places rows : List ℕ) (count : ℕ) {at r : ℕ} {table table′ m m′ : List ℕ} (e : at ≡ getD places 7 0) (f : VarsFilled s at table r table′) (t : TouchesAll s rows (take (r - 0) table′) m m′ places count) (h : length table ≡ 512) (z : m ≡ replicate 256 0) where
+module _ (s places rows : List ℕ) (count : ℕ) {at r : ℕ} {table table′ m m′ : List ℕ} (e : at ≡ getD places 7 0) (f : PairsFilled s at table r table′) (t : TouchesAll s rows (take (r - 0) table′) m m′ places count) (h : length table ≡ 512) (z : m ≡ replicate 256 0) where
   pub used-marked : MarksUsed s places rows count (r / 2) m′
   used-marked = record {
     many = λ x c.
@@ -110,7 +98,7 @@ module _ (s places rows : List ℕ) (count : ℕ) {at r : ℕ} {table table′ m
   }
     where
       part : take (r - 0) table′ ≡ pairsAt s at
-      part = rw sub-zero (filled-part table (pairsAt s at) table′ r (f .filled) (omega (arith, pairs-few s at)))
+      part = rw sub-zero (filled-front table (pairsAt s at) (omega (arith, pairs-few s at)) (f .filled))
 
       named : (x : Module) → Scene s places x → (length (pairsAt s at) ≡ 2 * length (x .vars)) × ((i : ℕ) (v : VarDecl) → getElem? (x .vars) i ≡ some v → varAt s (pairsAt s at) i ≡ v .name)
       named x c = var-names s (f .each) at (x .vars) (rw e (c .vars-are))
@@ -138,7 +126,7 @@ module _ (owner : ℕ) (o : List ℕ) (skip n : ℕ) (marks : List ℕ) (count :
     pub unmarked-more : {free : Bool} {r′ : ℕ} {o″ : List ℕ} → k < count → free ≡ eqb (getD marks k 0) 0 → Noted owner o′ skip r (noted free (note 23 k 0 0)) r′ o″ → UnmarkedLeft (k + 1) r′ o″
     unmarked-more {free} h e p = record {
       of = λ used vs w q.
-          let x = entry-of vs k (omega arith) in
+          let x = get-some vs k (omega arith) in
           let y : free ≡ not (member (x .0 .name) used) = e ∙ free-is (member (x .0 .name) used) (w .at k (x .0) (x .1)) in
           each-turn (unusedNote used) k vs (x .0) (x .1) (g .of used vs w q) (note-as owner (unusedNote used (record { place = k; item = x .0 })) (ap (λ (b : Bool). noted b (note 23 k 0 0)) y) p);
     }

@@ -37,8 +37,8 @@ use Rattle.findings.specs.Lists.{any, each}
 use Rattle.findings.specs.Scene.{Reads, field, Rows}
 use Rattle.findings.specs.Uses.{variantNames, isBare, patternNames, patternBare, namedBy, bareBy, usedBy, Named, VariantsAt, variants-here, variants-none, AddsVariant, AddsUse, UsesOf, IsNamed, HasVariant, IsUsed}
 use Rattle.findings.specs.declared.uses.Uses.{Uses}
-use Rattle.findings.proofs.EachLaws.{drop-get}
-use Rattle.findings.proofs.PresentLaws.{not-given, is-given, entry-of, last-or-before}
+use Rattle.findings.proofs.EachLaws.{get-some, drop-get}
+use Rattle.findings.proofs.OptionLaws.{not-given, is-given}
 
 -- a name more, whose place goes to the next word
 get-append : {A : Type 0} (xs : List A) (y : A) (k : ℕ) (x : A) → getElem? (xs ++ (y ∷ [])) k ≡ some x → ((k ≡ length xs) × (y ≡ x)) ⊎ ((k < length xs) × (getElem? xs k ≡ some x))
@@ -87,8 +87,8 @@ module _ (s : List ℕ) (at : ℕ) (table : List ℕ) (u : Uses) {b : Bool} (e :
   unfolding variantNames isBare
   variant-absent q = record {
     few = omega arith;
-    names = λ w g ns n. rw (not-given readPatternVariant e q g) (named-as s table (u .named) (ns ++ []) (sym (append-nil ns)) n);
-    bare = λ w g. rw (not-given readPatternVariant e q g) (or-true (u .bare));
+    names = λ w g ns n. rw (not-given readPatternVariant s at g e q) (named-as s table (u .named) (ns ++ []) (sym (append-nil ns)) n);
+    bare = λ w g. rw (not-given readPatternVariant s at g e q) (or-true (u .bare));
   }
 
   pub variant-present : {key : ℕ} {table′ : List ℕ} → b ≡ false → u .named < 255 → length table ≡ 256 → key ≡ afterTag s at → table′ ≡ set table (u .named) key → AddsVariant s at table u table′ (record { named = u .named + 1; bare = u .bare })
@@ -96,9 +96,9 @@ module _ (s : List ℕ) (at : ℕ) (table : List ℕ) (u : Uses) {b : Bool} (e :
   variant-present {key} {table′} q h l k t = record {
     few = omega arith;
     names = λ w g ns n.
-        let v = is-given readPatternVariant e q g in
-        rw (v .1, t) (named-more s table (u .named) ns key (patternVariantName (v .0)) n (omega arith) (ap (textAt s) k ∙ variant-key s at (v .0) (v .2)));
-    bare = λ w g. let v = is-given readPatternVariant e q g in rw (v .1) (or-false (u .bare));
+        let v = is-given readPatternVariant s at g e q in
+        rw (v .is, t) (named-more s table (u .named) ns key (patternVariantName (v .item)) n (omega arith) (ap (textAt s) k ∙ variant-key s at (v .item) (v .reads)));
+    bare = λ w g. let v = is-given readPatternVariant s at g e q in rw (v .is) (or-false (u .bare));
   }
 
 module _ (s : List ℕ) (at : ℕ) (g : Name) (table : List ℕ) (u : Uses) {name : ℕ} {text : Name} {b : Bool} (h : name ≡ afterHead s at) (t : text ≡ textAt s name) (e : b ≡ eqName text g) where
@@ -153,13 +153,13 @@ module _ (s rows : List ℕ) (count : ℕ) (g : Name) where
     uses-more {at} {table′} {u′} h e a = record {
       few = let x = a .few in let y = l .few in omega arith;
       names = λ ts w q.
-          let t = entry-of ts i (omega arith) in
+          let t = get-some ts i (omega arith) in
           let d = drop-get ts i (t .0) (t .1) in
           let v = l .names ts w q in
           let p = t .0 .pattern in
           (v .0 ++ patternNames g p, a .names p (here ts w t) (v .0) (v .1), append-assoc (v .0) (patternNames g p) (namedBy g (drop (i + 1) ts)) ∙ ap (λ (x : List Transition). v .0 ++ namedBy g x) (sym d) ∙ v .2);
       bare = λ ts w q.
-          let t = entry-of ts i (omega arith) in
+          let t = get-some ts i (omega arith) in
           let d = drop-get ts i (t .0) (t .1) in
           let p = t .0 .pattern in
           ap (λ (b : Bool). b || bareBy g (drop (i + 1) ts)) (a .bare p (here ts w t)) ∙ or-or (u .bare) (patternBare g p) (bareBy g (drop (i + 1) ts)) ∙ ap (λ (x : List Transition). u .bare || bareBy g x) (sym d) ∙ l .bare ts w q;
@@ -192,7 +192,7 @@ module _ (s table : List ℕ) (count : ℕ) (w : Name) where
       unfolding member
       here ns n =
           let m = n .many in
-          let x = entry-of ns k (omega arith) in
+          let x = get-some ns k (omega arith) in
           let i : eqName (x .0) w ≡ b = sym (q ∙ ap (λ (y : Name). eqName y w) (t ∙ ap (textAt s) e ∙ n .at k (x .0) (x .1))) in
           sym (l .of ns n) ∙ ap (member w) (drop-get ns k (x .0) (x .1)) ∙ ap (λ (y : Bool). pick y true (member w (drop (k + 1) ns))) i
 

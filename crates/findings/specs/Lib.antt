@@ -24,3 +24,4 @@ pub mod Uses
 pub mod Parts
 pub mod PairSteps
 pub mod StateSteps
+pub mod Reaching

@@ -1,16 +1,19 @@
 -- What the code of a whole module promises: the tables that it works on, and its errors and warnings.
 use Prim.Native.Nat.{ℕ, _*_, _≤_}
 use mathlib.Core.Path.{_≡_}
-use mathlib.Core.List.{List}
+use mathlib.Core.List.{List, _++_}
+use mathlib.Core.Bool.{not}
 use lib.ListN.{length, take}
 use Rattle.reading.specs.Read.{ok}
 use Rattle.reading.specs.Module.{Module, readModule}
 use Rattle.typing.specs.Env.{forModule, Agree}
 use Rattle.typing.specs.Table.{envAt}
 use Rattle.typing.specs.declared.table.Found.{Found}
-use Rattle.findings.specs.Mentions.{states}
-use Rattle.findings.specs.Errors.{claims, closing, errors}
-use Rattle.findings.specs.Warnings.{warnings}
+use Rattle.findings.specs.Lists.{placed, each}
+use Rattle.findings.specs.Mentions.{states, allTouched}
+use Rattle.findings.specs.Pairs.{clash, byState}
+use Rattle.findings.specs.Errors.{isEmpty, opening, own, claims, closing, errors}
+use Rattle.findings.specs.Warnings.{unreachable, dead, unused, warnings}
 use Rattle.findings.specs.Noting.{Noted}
 use Rattle.findings.specs.Scene.{Bytes, Rows, Scene, StatesAt}
 use Rattle.findings.specs.Prints.{Prints}
@@ -32,9 +35,21 @@ module _ (s : List ℕ) (owner : ℕ) (o : List ℕ) (skip n r : ℕ) (o′ : Li
   pub record NotesClosing (names enums properties : List ℕ) : Type 0 where
     pub of : (m : Module) → Scene s places m → StatesAt s found (states m) → Agree (envAt s names enums) (forModule m) → Claims s properties (claims m) → Noted owner o skip n (closing m) r o′
 
+  -- sites 1 to 13
+  pub record NotesFore (rows : List ℕ) (count : ℕ) (names enums : List ℕ) : Type 0 where
+    pub of : (m : Module) → Scene s places m → Rows s rows (m .transitions) → count ≡ length (m .transitions) → StatesAt s found (states m) → Agree (envAt s names enums) (forModule m) → Noted owner o skip n (opening m (not (isEmpty (m .transitions))) ++ each (own m) (placed 0 (m .transitions))) r o′
+
+  -- sites 1 to 15
+  pub record NotesMost (rows prints : List ℕ) (count : ℕ) (names enums : List ℕ) : Type 0 where
+    pub of : (m : Module) → Scene s places m → Rows s rows (m .transitions) → Prints prints (m .transitions) → count ≡ length (m .transitions) → StatesAt s found (states m) → Agree (envAt s names enums) (forModule m) → Noted owner o skip n (opening m (not (isEmpty (m .transitions))) ++ each (own m) (placed 0 (m .transitions)) ++ byState clash (m .transitions)) r o′
+
   -- all errors; the first words of the table are the module's variables
   pub record NotesErrors (rows prints : List ℕ) (count : ℕ) (names enums properties : List ℕ) : Type 0 where
     pub of : (m : Module) → Scene s places m → Rows s rows (m .transitions) → Prints prints (m .transitions) → count ≡ length (m .transitions) → StatesAt s found (states m) → Agree (envAt s names enums) (forModule m) → Claims s properties (claims m) → Noted owner o skip n (errors m) r o′
+
+  -- sites 21 to 23
+  pub record NotesDoubts (rows prints : List ℕ) (count : ℕ) : Type 0 where
+    pub of : (m : Module) → Scene s places m → Rows s rows (m .transitions) → Prints prints (m .transitions) → count ≡ length (m .transitions) → StatesAt s found (states m) → Noted owner o skip n (unreachable (states m) (m .initial-state) (m .transitions) ++ dead (m .events) (m .transitions) ++ unused (allTouched m) (m .vars)) r o′
 
   -- all warnings
   pub record NotesWarnings (rows prints : List ℕ) (count : ℕ) : Type 0 where

@@ -103,8 +103,8 @@ module _ (s rows names m m′ : List ℕ) where
 pub record Marked (marks : List ℕ) (used : List Name) (vs : List VarDecl) : Type 0 where
   pub at : (k : ℕ) (v : VarDecl) → getElem? vs k ≡ some v → getD marks k 0 ≡ cond (member (v .name) used) 1 0
 
--- a table of the variables at a place, in a document, which is made of bytes
-pub record VarsFilled (s : List ℕ) (at : ℕ) (table : List ℕ) (r : ℕ) (table′ : List ℕ) : Type 0 where
+-- the table of the list of records at a place, in a document, which is made of bytes
+pub record PairsFilled (s : List ℕ) (at : ℕ) (table : List ℕ) (r : ℕ) (table′ : List ℕ) : Type 0 where
   pub filled : Filled table (pairsAt s at) r table′
   pub few : r ≤ 510
   pub each : (i : ℕ) → getD s i 0 < 256

@@ -86,3 +86,38 @@ pub record HasVariant (s : List ℕ) (found : Found) (w : Name) (r : Bool) : Typ
 
 pub record IsUsed (s : List ℕ) (found : Found) (table : List ℕ) (u : Uses) (w : Name) (r : Bool) : Type 0 where
   pub of : (vs ns : List Name) → VariantsAt s found vs → Named s table (u .named) ns → r ≡ usedBy (u .bare) vs ns w
+
+-- a table of groups: pairs of the places of a name and of its variants
+pub record GroupsAt (s groups : List ℕ) (gs : List ConstructorGroup) : Type 0 where
+  pub room : length groups ≡ 2 * length gs
+  pub name-is : (k : ℕ) (x : ConstructorGroup) → getElem? gs k ≡ some x → textAt s (getD groups (2 * k) 0) ≡ x .name
+  pub variants-are : (k : ℕ) (x : ConstructorGroup) → getElem? gs k ≡ some x → Reads (listOf maxList readConstructorVariant) s (getD groups (2 * k + 1) 0) (x .variants)
+
+pub record FirstVariants (s groups : List ℕ) (w : Name) (r : Found) : Type 0 where
+  pub of : (gs : List ConstructorGroup) → GroupsAt s groups gs → VariantsAt s r (groupVariants (firstCalled groupName w gs))
+
+-- what is known of a group's uses: the variants of the first group of its name, and the names that patterns give
+pub record Known (s : List ℕ) (found : Found) (table : List ℕ) (u : Uses) : Type 0 where
+  pub variants : List Name
+  pub names : List Name
+  pub variants-at : VariantsAt s found variants
+  pub named : Named s table (u .named) names
+
+-- a variant of group g, by what is known
+abbrev pub unusedVariant : {s : List ℕ} {found : Found} {table : List ℕ} (u : Uses) → ℕ → Known s found table u → Placed ConstructorVariant → List Note
+unusedVariant u g h v = noted (not (usedBy (u .bare) (h .variants) (h .names) (declaredName (v .item)))) (note 22 g (v .place) 0)
+
+module _ (s : List ℕ) (owner : ℕ) (o : List ℕ) (skip n r : ℕ) (o′ : List ℕ) where
+  pub record NotesVariant (found : Found) (table : List ℕ) (u : Uses) (g at j : ℕ) : Type 0 where
+    pub of : (h : Known s found table u) (x : ConstructorVariant) → Reads readConstructorVariant s at x → Noted owner o skip n (unusedVariant u g h (at-place j x)) r o′
+
+  pub record NotesVariants (found : Found) (table : List ℕ) (u : Uses) (g at : ℕ) : Type 0 where
+    pub of : (h : Known s found table u) (xs : List ConstructorVariant) → Reads (listOf maxList readConstructorVariant) s at xs → Noted owner o skip n (each (unusedVariant u g h) (placed 0 xs)) r o′
+
+  -- group g of a table of groups, and all of them
+  module _ (rows : List ℕ) (count : ℕ) (groups : List ℕ) where
+    pub record NotesGroup (g : ℕ) : Type 0 where
+      pub of : (gs : List ConstructorGroup) (x : ConstructorGroup) (ts : List Transition) → GroupsAt s groups gs → getElem? gs g ≡ some x → Rows s rows ts → count ≡ length ts → Noted owner o skip n (deadIn gs ts (at-place g x)) r o′
+
+    pub record NotesGroups (many : ℕ) : Type 0 where
+      pub of : (gs : List ConstructorGroup) (ts : List Transition) → GroupsAt s groups gs → many ≡ length gs → Rows s rows ts → count ≡ length ts → Noted owner o skip n (dead gs ts) r o′

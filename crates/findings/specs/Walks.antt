@@ -1,7 +1,8 @@
 -- What a walk over modules promises: errors go to one buffer and warnings to another, each in the order of the list.
-use Prim.Native.Nat.{ℕ}
+use Prim.Native.Nat.{ℕ, _<_, _≤_}
 use mathlib.Core.Path.{_≡_}
 use mathlib.Core.List.{List}
+use lib.ListN.{length}
 use Rattle.reading.specs.Read.{ok}
 use Rattle.reading.specs.Limits.{maxModules}
 use Rattle.reading.specs.Combine.{listOf}
@@ -9,10 +10,11 @@ use Rattle.reading.specs.Module.{Module, Ir, readModule, readIr}
 use Rattle.reading.specs.Document.{readDocument}
 use Rattle.findings.specs.Errors.{errors}
 use Rattle.findings.specs.Warnings.{warnings}
-use Rattle.findings.specs.Findings.{byModule, allErrors, allWarnings}
-use Rattle.findings.specs.Sheet.{Written}
+use Rattle.findings.specs.Findings.{byModule, allErrors, allWarnings, findings}
+use Rattle.findings.specs.Sheet.{put, Written}
 use Rattle.findings.specs.Noting.{Noted}
-use Rattle.findings.specs.Scene.{Reads}
+use Rattle.findings.specs.Scene.{Bytes, Reads, Rows, Scene}
+use Rattle.findings.specs.Prints.{Prints}
 use Rattle.findings.specs.Reply.{replyTo, sheetOf, lineTo}
 use Rattle.findings.specs.declared.reply.Reply.{Reply}
 use Rattle.findings.specs.declared.reply.Line.{Line}
@@ -24,6 +26,10 @@ module _ (s o : List ℕ) (skip n r : ℕ) (o′ p : List ℕ) (leave k q : ℕ)
     pub errors-are : Noted owner o skip n (errors m) r o′
     pub warnings-are : Noted owner p leave k (warnings m) q p′
     pub ends : end ≡ e
+
+  -- of a module whose fields' places are known
+  pub record WalksNamed (owner : ℕ) (places rows prints : List ℕ) (count : ℕ) : Type 0 where
+    pub of : (m : Module) → Bytes s → Scene s places m → Rows s rows (m .transitions) → Prints prints (m .transitions) → count ≡ length (m .transitions) → Noted owner o skip n (errors m) r o′ × Noted owner p leave k (warnings m) q p′
 
   pub record WalksModule (owner at end : ℕ) : Type 0 where
     pub of : (m : Module) (e : ℕ) → readModule s at ≡ ok m e → ModuleWalked owner end m e
@@ -44,6 +50,13 @@ module _ (s o : List ℕ) (skip n r : ℕ) (o′ p : List ℕ) (leave k q : ℕ)
   pub record WalksAll : Type 0 where
     pub of : (x : Ir) (e : ℕ) → readIr s 0 ≡ ok x e → Walked x
 
+-- how many errors and warnings a document that reads has, and its findings in lent words
+pub record Counted (s : List ℕ) (a b : ℕ) : Type 0 where
+  pub of : (x : Ir) (n : ℕ) → readDocument s ≡ ok x n → (a ≡ length (allErrors x)) × (b ≡ length (allWarnings x))
+
+pub record Filled (s o : List ℕ) (a : ℕ) (o′ : List ℕ) : Type 0 where
+  pub of : (x : Ir) (n : ℕ) → readDocument s ≡ ok x n → a ≡ length (allErrors x) → o′ ≡ put o 0 0 (findings x)
+
 -- the answer to a document that reads, and the lent words afterwards
 pub record Replies (s o : List ℕ) (r : Reply) (o′ : List ℕ) : Type 0 where
   pub of : (x : Ir) (n : ℕ) → readDocument s ≡ ok x n → (r ≡ replyTo o (ok x n)) × (o′ ≡ sheetOf o (ok x n))
@@ -51,3 +64,7 @@ pub record Replies (s o : List ℕ) (r : Reply) (o′ : List ℕ) : Type 0 where
 -- finding number k of a document that reads
 pub record Lines (s : List ℕ) (k : ℕ) (r : Line) : Type 0 where
   pub of : (x : Ir) (n : ℕ) → readDocument s ≡ ok x n → r ≡ lineTo k (ok x n)
+
+-- the same where so many errors come before it
+pub record WarningLine (s : List ℕ) (k a : ℕ) (r : Line) : Type 0 where
+  pub of : (x : Ir) (n : ℕ) → readDocument s ≡ ok x n → a ≡ length (allErrors x) → a ≤ k → k < length (findings x) → r ≡ lineTo k (ok x n)

@@ -2,10 +2,13 @@
 //
 // `specs/` says what is right, over the document's content; `proofs/` says why the code gives it.
 mod by_state;
+mod call;
 mod cause;
 mod claims;
 mod clash;
+mod dead;
 mod emits;
+mod errors;
 mod guard;
 mod impossible;
 mod mentions;
@@ -17,6 +20,7 @@ mod output;
 mod pairs;
 mod prints;
 mod priority;
+mod reach;
 mod reply;
 mod rows;
 mod sets;
@@ -26,6 +30,9 @@ mod touch;
 mod transition;
 mod unused;
 mod uses;
+mod walk;
+mod warnings;
+mod whole;
 
 pub use reply::Line;
 pub use reply::Reply;

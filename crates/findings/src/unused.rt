@@ -7,7 +7,7 @@ ghost use mathlib.Core.Path.{_≡_};
 ghost use Prim.Native.Nat.{_+_, _≤_, _^_};
 ghost use lib.ListN.{length, getD, replicate};
 ghost use lib.Dec.{eqb};
-ghost use Rattle.findings.specs.Touch.{VarsFilled, MarksUsed, NotesUnmarked};
+ghost use Rattle.findings.specs.Touch.{PairsFilled, MarksUsed, NotesUnmarked};
 ghost use Rattle.findings.specs.WarningPromises.{NotesUnused};
 
 // Whether variable k is not marked.
@@ -44,9 +44,9 @@ pub(crate) fn note_unmarked(
     m
 }
 
-// Fills the table of the variables at a place; how many words it takes.
-pub(crate) fn fill_vars(doc: &[u8], at: usize, table: &mut [usize]) -> usize
-    ensures { λ r. ⌜ VarsFilled (now (doc .entry)) at (now (table .entry)) r (now (table .exit)) ⌝ }
+// Fills the table of the list of records at a place; how many words it takes.
+pub(crate) fn fill_pairs(doc: &[u8], at: usize, table: &mut [usize]) -> usize
+    ensures { λ r. ⌜ PairsFilled (now (doc .entry)) at (now (table .entry)) r (now (table .exit)) ⌝ }
 {
     fill_table(doc, at, table)
 }
@@ -65,7 +65,7 @@ pub(crate) fn mark_used<'a>(
     ensures { λ r. ⌜ MarksUsed (now (doc .entry)) (now (places .entry)) (now (rows .entry)) count r (now (marks .exit)) ⌝ }
 {
     let at = word(places, 7);
-    let w = fill_vars(doc, at, table);
+    let w = fill_pairs(doc, at, table);
     let vars = w / 2;
     let many = vars as u8;
     touch_all(doc, places, rows, count, &table[0..w], marks);

@@ -2,11 +2,11 @@
 use borrow.Author.Needs.{needs}
 use native.Mathlib.Omega.{arith}
 use Rattle.findings.proofs.UnusedLaws.{filled-few}
-use Rattle.findings.proofs.unused.fill_vars.Statement.{statement}
-use Rattle.findings.proofs.unused.fill_vars.Tie as tie
+use Rattle.findings.proofs.unused.fill_pairs.Statement.{statement}
+use Rattle.findings.proofs.unused.fill_pairs.Tie as tie
 
-pub fill-vars-spec : {M : Type 1} → statement M
-fill-vars-spec =
+pub fill-pairs-spec : {M : Type 1} → statement M
+fill-pairs-spec =
     tie.close
     (tie.spec
     (λ c κs. search needs)

@@ -1,0 +1,179 @@
+// Events that no transition uses: site 22.
+use crate::sheet::emit_if;
+use crate::unused::fill_pairs;
+use crate::uses::Uses;
+use crate::uses::fill_uses;
+use crate::uses::is_used;
+use reading::Answer;
+use reading::Cursor;
+use reading::text_at;
+use typing::Found;
+use typing::after;
+use typing::after_tag;
+use typing::same;
+ghost use mathlib.Core.Path.{_≡_};
+ghost use Prim.Native.Nat.{_+_, _*_, _<_, _≤_, _^_};
+ghost use lib.ListN.{length};
+ghost use Rattle.findings.specs.Uses.{FirstVariants, NotesVariant, NotesVariants, NotesGroup, NotesGroups};
+ghost use Rattle.findings.specs.WarningPromises.{NotesDead};
+
+// The variants of the first group of a name, by a table of the groups.
+pub(crate) fn first_variants<'a>(doc: &'a [u8], groups: &'a [usize], name: &'a [u8]) -> Found
+    ensures { λ r. ⌜ FirstVariants (now (doc .entry)) (now (groups .entry)) (now (name .entry)) r ⌝ }
+{
+    let count = groups.len() / 2;
+    let mut k: usize = 0;
+    while k < count {
+        let key = groups[2 * k];
+        if same(text_at(doc, key), name) {
+            return Found::At(groups[2 * k + 1]);
+        }
+        k += 1;
+    }
+    Found::Nothing
+}
+
+// The variant at a place, number j of group g.
+pub(crate) fn note_variant<'a>(
+    doc: &'a [u8],
+    at: usize,
+    found: Found,
+    table: &'a [usize],
+    u: Uses,
+    g: u32,
+    j: u32,
+    out: &mut [u32],
+    skip: usize,
+    n: usize,
+    owner: u32,
+) -> usize
+    requires { ⌜ n < 2 ^ 40 ⌝ }
+    ensures { λ r. ⌜ NotesVariant (now (doc .entry)) owner (now (out .entry)) skip n r (now (out .exit)) found (now (table .entry)) u g at j ⌝ }
+    ensures { λ r. ⌜ r ≤ n + 1 ⌝ }
+{
+    let key = after_tag(doc, at);
+    let used = is_used(doc, found, table, u, text_at(doc, key));
+    emit_if(!used, out, skip, n, owner, 22, g, j)
+}
+
+// Those of the list at a place.
+pub(crate) fn note_variants<'a>(
+    doc: &'a [u8],
+    at: usize,
+    found: Found,
+    table: &'a [usize],
+    u: Uses,
+    g: u32,
+    out: &mut [u32],
+    skip: usize,
+    n: usize,
+    owner: u32,
+) -> usize
+    requires { ⌜ n + 255 ≤ 2 ^ 40 ⌝ }
+    ensures { λ r. ⌜ NotesVariants (now (doc .entry)) owner (now (out .entry)) skip n r (now (out .exit)) found (now (table .entry)) u g at ⌝ }
+    ensures { λ r. ⌜ r ≤ n + 255 ⌝ }
+{
+    let c = Cursor { at };
+    let a = c.count(doc, 255);
+    let Answer::Got(count, first) = a else {
+        return n;
+    };
+    let mut k = first.at;
+    let mut m = n;
+    let mut j: u64 = 0;
+    while j < count {
+        m = note_variant(doc, k, found, table, u, g, j as u32, out, skip, m, owner);
+        k = after(doc, k);
+        j += 1;
+    }
+    m
+}
+
+// Those of group g, by a table of the groups; uses is room for the places of names.
+pub(crate) fn note_group<'a>(
+    doc: &'a [u8],
+    groups: &'a [usize],
+    rows: &'a [usize],
+    count: u8,
+    g: u8,
+    uses: &mut [usize],
+    out: &mut [u32],
+    skip: usize,
+    n: usize,
+    owner: u32,
+) -> usize
+    requires { ⌜ 2 * g + 1 < length (now groups) ⌝ }
+    requires { ⌜ length (now uses) ≡ 256 ⌝ }
+    requires { ⌜ n + 255 ≤ 2 ^ 40 ⌝ }
+    ensures { λ r. ⌜ NotesGroup (now (doc .entry)) owner (now (out .entry)) skip n r (now (out .exit)) (now (rows .entry)) count (now (groups .entry)) g ⌝ }
+    ensures { λ r. ⌜ r ≤ n + 255 ⌝ }
+{
+    let j = 2 * (g as usize);
+    let key = groups[j];
+    let variants = groups[j + 1];
+    let u = fill_uses(doc, rows, count, text_at(doc, key), uses);
+    let found = first_variants(doc, groups, text_at(doc, key));
+    note_variants(doc, variants, found, uses, u, g as u32, out, skip, n, owner)
+}
+
+// Those of so many groups.
+pub(crate) fn note_groups<'a>(
+    doc: &'a [u8],
+    groups: &'a [usize],
+    rows: &'a [usize],
+    count: u8,
+    many: u8,
+    uses: &mut [usize],
+    out: &mut [u32],
+    skip: usize,
+    n: usize,
+    owner: u32,
+) -> usize
+    requires { ⌜ 2 * many ≤ length (now groups) ⌝ }
+    requires { ⌜ length (now uses) ≡ 256 ⌝ }
+    requires { ⌜ n + 65025 ≤ 2 ^ 40 ⌝ }
+    ensures { λ r. ⌜ NotesGroups (now (doc .entry)) owner (now (out .entry)) skip n r (now (out .exit)) (now (rows .entry)) count (now (groups .entry)) many ⌝ }
+    ensures { λ r. ⌜ r ≤ n + 65025 ⌝ }
+{
+    let mut m = n;
+    let mut g: u8 = 0;
+    while g < many {
+        m = note_group(doc, groups, rows, count, g, uses, out, skip, m, owner);
+        g += 1;
+    }
+    m
+}
+
+// Site 22 of the groups of events at a place, by the rows of the transitions.
+pub(crate) fn note_dead<'a>(
+    doc: &'a [u8],
+    events: usize,
+    rows: &'a [usize],
+    count: u8,
+    out: &mut [u32],
+    skip: usize,
+    n: usize,
+    owner: u32,
+) -> usize
+    requires { ⌜ n + 65025 ≤ 2 ^ 40 ⌝ }
+    ensures { λ r. ⌜ NotesDead (now (doc .entry)) owner (now (out .entry)) skip n r (now (out .exit)) (now (rows .entry)) count events ⌝ }
+    ensures { λ r. ⌜ r ≤ n + 65025 ⌝ }
+{
+    let mut table = [0usize; 512];
+    let mut uses = [0usize; 256];
+    let w = fill_pairs(doc, events, &mut table);
+    let half = w / 2;
+    let many = half as u8;
+    note_groups(
+        doc,
+        &table[0..w],
+        rows,
+        count,
+        many,
+        &mut uses,
+        out,
+        skip,
+        n,
+        owner,
+    )
+}

@@ -1,0 +1,182 @@
+// State variants that no chain of transitions leads to: site 21.
+use crate::rows::field;
+use crate::sheet::emit_if;
+use crate::unused::is_free;
+use crate::walk::walk;
+use reading::Answer;
+use reading::Cursor;
+use reading::text_at;
+use typing::Found;
+use typing::after;
+use typing::null_at;
+use typing::same;
+use typing::same_name;
+ghost use Prim.Native.Nat.{_+_, _<_, _≤_, _^_};
+ghost use lib.ListN.{length};
+ghost use Rattle.findings.specs.WarningPromises.{NotesUnreachable};
+ghost use Rattle.findings.specs.Reaching.{IsHit, IsLed, NotesUnled, NotesUnledAt, NotesUnledStates};
+
+// Whether transition i is taken and leads to the name.
+pub(crate) fn is_hit<'a>(
+    doc: &'a [u8],
+    rows: &'a [usize],
+    marks: &'a [u8],
+    name: &'a [u8],
+    i: u8,
+) -> bool
+    ensures { λ r. ⌜ IsHit (now (doc .entry)) (now (rows .entry)) (now (marks .entry)) (now (name .entry)) i r ⌝ }
+{
+    if is_free(marks, i) {
+        return false;
+    }
+    same(text_at(doc, field(rows, i, 4)), name)
+}
+
+// Whether the name at key is the first, which stands at a place, or what is taken leads to it.
+pub(crate) fn is_led<'a>(
+    doc: &'a [u8],
+    rows: &'a [usize],
+    marks: &'a [u8],
+    count: u8,
+    at: usize,
+    key: usize,
+) -> bool
+    ensures { λ r. ⌜ IsLed (now (doc .entry)) (now (rows .entry)) (now (marks .entry)) count at key r ⌝ }
+{
+    if same_name(doc, at, key) {
+        return true;
+    }
+    let mut i: u8 = 0;
+    while i < count {
+        if is_hit(doc, rows, marks, text_at(doc, key), i) {
+            return true;
+        }
+        i += 1;
+    }
+    false
+}
+
+// The name at key, number j of its list, where nothing leads to it.
+pub(crate) fn note_unled<'a>(
+    doc: &'a [u8],
+    rows: &'a [usize],
+    marks: &'a [u8],
+    count: u8,
+    at: usize,
+    key: usize,
+    j: u32,
+    out: &mut [u32],
+    skip: usize,
+    n: usize,
+    owner: u32,
+) -> usize
+    requires { ⌜ n < 2 ^ 40 ⌝ }
+    ensures { λ r. ⌜ NotesUnled (now (doc .entry)) owner (now (out .entry)) skip n r (now (out .exit)) (now (rows .entry)) count (now (marks .entry)) at key j ⌝ }
+    ensures { λ r. ⌜ r ≤ n + 1 ⌝ }
+{
+    let led = is_led(doc, rows, marks, count, at, key);
+    emit_if(!led, out, skip, n, owner, 21, j, 0)
+}
+
+// The names of a list.
+pub(crate) fn note_unled_at<'a>(
+    doc: &'a [u8],
+    rows: &'a [usize],
+    marks: &'a [u8],
+    count: u8,
+    at: usize,
+    list: usize,
+    out: &mut [u32],
+    skip: usize,
+    n: usize,
+    owner: u32,
+) -> usize
+    requires { ⌜ n + 255 ≤ 2 ^ 40 ⌝ }
+    ensures { λ r. ⌜ NotesUnledAt (now (doc .entry)) owner (now (out .entry)) skip n r (now (out .exit)) (now (rows .entry)) count (now (marks .entry)) at list ⌝ }
+    ensures { λ r. ⌜ r ≤ n + 255 ⌝ }
+{
+    let c = Cursor { at: list };
+    let a = c.count(doc, 255);
+    let Answer::Got(many, first) = a else {
+        return n;
+    };
+    let mut k = first.at;
+    let mut m = n;
+    let mut j: u64 = 0;
+    while j < many {
+        m = note_unled(
+            doc,
+            rows,
+            marks,
+            count,
+            at,
+            k,
+            j as u32,
+            out,
+            skip,
+            m,
+            owner,
+        );
+        k = after(doc, k);
+        j += 1;
+    }
+    m
+}
+
+// The State variants.
+pub(crate) fn note_unled_states<'a>(
+    doc: &'a [u8],
+    rows: &'a [usize],
+    marks: &'a [u8],
+    count: u8,
+    at: usize,
+    found: Found,
+    out: &mut [u32],
+    skip: usize,
+    n: usize,
+    owner: u32,
+) -> usize
+    requires { ⌜ n + 255 ≤ 2 ^ 40 ⌝ }
+    ensures { λ r. ⌜ NotesUnledStates (now (doc .entry)) owner (now (out .entry)) skip n r (now (out .exit)) (now (rows .entry)) count (now (marks .entry)) at found ⌝ }
+    ensures { λ r. ⌜ r ≤ n + 255 ⌝ }
+{
+    let Found::At(list) = found else {
+        return n;
+    };
+    note_unled_at(doc, rows, marks, count, at, list, out, skip, n, owner)
+}
+
+// Site 21 of a module: at is the place of the initial state, and found that of the State variants.
+pub(crate) fn note_unreachable<'a>(
+    doc: &'a [u8],
+    rows: &'a [usize],
+    prints: &'a [u32],
+    count: u8,
+    found: Found,
+    at: usize,
+    out: &mut [u32],
+    skip: usize,
+    n: usize,
+    owner: u32,
+) -> usize
+    requires { ⌜ 768 ≤ length (now prints) ⌝ }
+    requires { ⌜ n + 255 ≤ 2 ^ 40 ⌝ }
+    ensures { λ r. ⌜ NotesUnreachable (now (doc .entry)) owner (now (out .entry)) skip n r (now (out .exit)) (now (rows .entry)) count (now (prints .entry)) found at ⌝ }
+    ensures { λ r. ⌜ r ≤ n + 255 ⌝ }
+{
+    if null_at(doc, at) {
+        return n;
+    }
+    let mut marks = [0u8; 256];
+    let mut queue = [0u8; 256];
+    walk(
+        doc,
+        rows,
+        prints,
+        count,
+        text_at(doc, at),
+        &mut marks,
+        &mut queue,
+    );
+    note_unled_states(doc, rows, &marks, count, at, found, out, skip, n, owner)
+}

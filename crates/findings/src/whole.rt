@@ -1,0 +1,431 @@
+// The walk over a document's modules: errors go to one buffer and warnings to another.
+use crate::errors::note_errors;
+use crate::module::fill_names;
+use crate::module::open_module;
+use crate::prints::fill_prints;
+use crate::rows::Listed;
+use crate::rows::word;
+use crate::states::first_states;
+use crate::warnings::note_warnings;
+use reading::Answer;
+use reading::Cursor;
+use typing::Found;
+use typing::after;
+use typing::after_head;
+ghost use mathlib.Core.Path.{_≡_};
+ghost use Prim.Native.Nat.{_+_, _-_, _*_, _≤_, _^_};
+ghost use lib.ListN.{length, getD, take};
+ghost use Rattle.findings.specs.Scene.{Opens};
+ghost use Rattle.findings.specs.Promises.{FirstStates};
+ghost use Rattle.findings.specs.PairPromises.{Printed};
+ghost use Rattle.findings.specs.ModulePromises.{Names, NotesErrors, NotesWarnings};
+ghost use Rattle.findings.specs.Walks.{WalksNamed, WalksModule, WalksModules, WalksAll};
+
+// The next number of an error and of a warning.
+pub struct Totals {
+    pub errors: usize,
+    pub warnings: usize,
+}
+
+// Both walks over a module whose tables are filled.
+fn judge_module<'a>(
+    doc: &'a [u8],
+    places: &'a [usize],
+    rows: &'a [usize],
+    prints: &'a [u32],
+    count: u8,
+    found: Found,
+    table: &mut [usize],
+    vars: u8,
+    enums: &'a [usize],
+    claims: &'a [usize],
+    out: &mut [u32],
+    skip: usize,
+    n: usize,
+    aside: &mut [u32],
+    leave: usize,
+    k: usize,
+    owner: u32,
+) -> Totals
+    requires { ⌜ 768 ≤ length (now prints) ⌝ }
+    requires { ⌜ 1020 ≤ length (now table) ⌝ }
+    requires { ⌜ length (now claims) ≤ 1020 ⌝ }
+    requires { ⌜ n + 33295864 ≤ 2 ^ 40 ⌝ }
+    requires { ⌜ k + 33228540 ≤ 2 ^ 40 ⌝ }
+    ensures { λ r. ⌜ NotesErrors (now (doc .entry)) owner (now (out .entry)) skip n (r .errors) (now (out .exit)) (now (places .entry)) found (now (rows .entry)) (now (prints .entry)) count (take (2 * vars) (now (table .entry))) (now (enums .entry)) (now (claims .entry)) ⌝ }
+    ensures { λ r. ⌜ NotesWarnings (now (doc .entry)) owner (now (aside .entry)) leave k (r .warnings) (now (aside .exit)) (now (places .entry)) found (now (rows .entry)) (now (prints .entry)) count ⌝ }
+    ensures { λ r. ⌜ r .errors ≤ n + 33295864 ⌝ }
+    ensures { λ r. ⌜ r .warnings ≤ k + 33228540 ⌝ }
+{
+    let errors = note_errors(
+        doc,
+        places,
+        rows,
+        prints,
+        count,
+        found,
+        table,
+        vars,
+        enums,
+        claims,
+        out,
+        skip,
+        n,
+        owner,
+    );
+    let warnings = note_warnings(
+        doc,
+        places,
+        rows,
+        prints,
+        count,
+        found,
+        aside,
+        leave,
+        k,
+        owner,
+    );
+    Totals { errors, warnings }
+}
+
+// The same, where the tables take a words of enums and b of properties and assumptions.
+fn judge_named<'a>(
+    doc: &'a [u8],
+    places: &'a [usize],
+    rows: &'a [usize],
+    prints: &'a [u32],
+    count: u8,
+    found: Found,
+    table: &mut [usize],
+    vars: u8,
+    a: usize,
+    b: usize,
+    enums: &'a [usize],
+    claims: &'a [usize],
+    out: &mut [u32],
+    skip: usize,
+    n: usize,
+    aside: &mut [u32],
+    leave: usize,
+    k: usize,
+    owner: u32,
+) -> Totals
+    requires { ⌜ 768 ≤ length (now prints) ⌝ }
+    requires { ⌜ 1020 ≤ length (now table) ⌝ }
+    requires { ⌜ a ≤ length (now enums) ⌝ }
+    requires { ⌜ b ≤ length (now claims) ⌝ }
+    requires { ⌜ b ≤ 1020 ⌝ }
+    requires { ⌜ n + 33295864 ≤ 2 ^ 40 ⌝ }
+    requires { ⌜ k + 33228540 ≤ 2 ^ 40 ⌝ }
+    ensures { λ r. ⌜ NotesErrors (now (doc .entry)) owner (now (out .entry)) skip n (r .errors) (now (out .exit)) (now (places .entry)) found (now (rows .entry)) (now (prints .entry)) count (take (2 * vars) (now (table .entry))) (take (a - 0) (now (enums .entry))) (take (b - 0) (now (claims .entry))) ⌝ }
+    ensures { λ r. ⌜ NotesWarnings (now (doc .entry)) owner (now (aside .entry)) leave k (r .warnings) (now (aside .exit)) (now (places .entry)) found (now (rows .entry)) (now (prints .entry)) count ⌝ }
+    ensures { λ r. ⌜ r .errors ≤ n + 33295864 ⌝ }
+    ensures { λ r. ⌜ r .warnings ≤ k + 33228540 ⌝ }
+{
+    let known = &enums[0..a];
+    let listed = &claims[0..b];
+    judge_module(
+        doc,
+        places,
+        rows,
+        prints,
+        count,
+        found,
+        table,
+        vars,
+        known,
+        listed,
+        out,
+        skip,
+        n,
+        aside,
+        leave,
+        k,
+        owner,
+    )
+}
+
+// The numbers after a module, and the place after it.
+pub struct Passed {
+    pub errors: usize,
+    pub warnings: usize,
+    pub end: usize,
+}
+
+// The places of a module's fields and of its transitions' fields, with the prints of the transitions.
+fn open_printed(
+    doc: &[u8],
+    at: usize,
+    places: &mut [usize],
+    rows: &mut [usize],
+    prints: &mut [u32],
+) -> Listed
+    requires { ⌜ 11 ≤ length (now places) ⌝ }
+    requires { ⌜ 2040 ≤ length (now rows) ⌝ }
+    requires { ⌜ 768 ≤ length (now prints) ⌝ }
+    ensures { λ r. ⌜ Opens (now (doc .entry)) at r (now (places .exit)) (now (rows .exit)) ⌝ }
+    ensures { λ r. ⌜ Printed (now (doc .entry)) (now (rows .exit)) (r .count) (now (prints .exit)) ⌝ }
+{
+    let listed = open_module(doc, at, places, rows);
+    fill_prints(doc, rows, listed.count, prints);
+    listed
+}
+
+// The first enum called State of a module.
+fn states_of<'a>(doc: &'a [u8], places: &'a [usize]) -> Found
+    ensures { λ r. ⌜ FirstStates (now (doc .entry)) (getD (now (places .entry)) 3 0) r ⌝ }
+{
+    let enums = word(places, 3);
+    first_states(doc, enums)
+}
+
+// The first enum called State, how many variables there are, and how many words the tables of names take.
+pub struct Known {
+    pub found: Found,
+    pub vars: u8,
+    pub enums: usize,
+    pub claims: usize,
+}
+
+// Fills the tables of names of a module whose fields' places are known.
+fn name_module<'a>(
+    doc: &'a [u8],
+    places: &'a [usize],
+    table: &mut [usize],
+    enums: &mut [usize],
+    claims: &mut [usize],
+) -> Known
+    requires { ⌜ 510 ≤ length (now table) ⌝ }
+    requires { ⌜ 510 ≤ length (now enums) ⌝ }
+    requires { ⌜ length (now claims) ≡ 1020 ⌝ }
+    ensures { λ r. ⌜ FirstStates (now (doc .entry)) (getD (now (places .entry)) 3 0) (r .found) ⌝ }
+    ensures { λ r. ⌜ Names (now (doc .entry)) (now (places .entry)) (record { vars = r .vars; enums = r .enums; claims = r .claims }) (now (table .exit)) (now (enums .exit)) (now (claims .exit)) ⌝ }
+    ensures { λ r. ⌜ r .enums ≤ 510 ⌝ }
+    ensures { λ r. ⌜ r .claims ≤ 1020 ⌝ }
+{
+    let found = states_of(doc, places);
+    let named = fill_names(doc, places, table, enums, claims);
+    Known {
+        found,
+        vars: named.vars,
+        enums: named.enums,
+        claims: named.claims,
+    }
+}
+
+// Both walks over a module whose fields' places are known; the tables of names are filled anew.
+fn walk_named<'a>(
+    doc: &'a [u8],
+    owner: u32,
+    places: &'a [usize],
+    rows: &'a [usize],
+    prints: &'a [u32],
+    count: u8,
+    table: &mut [usize],
+    enums: &mut [usize],
+    claims: &mut [usize],
+    out: &mut [u32],
+    skip: usize,
+    n: usize,
+    aside: &mut [u32],
+    leave: usize,
+    k: usize,
+) -> Totals
+    requires { ⌜ 768 ≤ length (now prints) ⌝ }
+    requires { ⌜ 1020 ≤ length (now table) ⌝ }
+    requires { ⌜ 510 ≤ length (now enums) ⌝ }
+    requires { ⌜ length (now claims) ≡ 1020 ⌝ }
+    requires { ⌜ n + 33295864 ≤ 2 ^ 40 ⌝ }
+    requires { ⌜ k + 33228540 ≤ 2 ^ 40 ⌝ }
+    ensures { λ r. ⌜ WalksNamed (now (doc .entry)) (now (out .entry)) skip n (r .errors) (now (out .exit)) (now (aside .entry)) leave k (r .warnings) (now (aside .exit)) owner (now (places .entry)) (now (rows .entry)) (now (prints .entry)) count ⌝ }
+    ensures { λ r. ⌜ r .errors ≤ n + 33295864 ⌝ }
+    ensures { λ r. ⌜ r .warnings ≤ k + 33228540 ⌝ }
+{
+    let known = name_module(doc, places, table, enums, claims);
+    let found = known.found;
+    judge_named(
+        doc,
+        places,
+        rows,
+        prints,
+        count,
+        found,
+        table,
+        known.vars,
+        known.enums,
+        known.claims,
+        enums,
+        claims,
+        out,
+        skip,
+        n,
+        aside,
+        leave,
+        k,
+        owner,
+    )
+}
+
+// Both walks over the module at a place. The tables are filled anew.
+fn walk_module(
+    doc: &[u8],
+    at: usize,
+    owner: u32,
+    places: &mut [usize],
+    rows: &mut [usize],
+    prints: &mut [u32],
+    table: &mut [usize],
+    enums: &mut [usize],
+    claims: &mut [usize],
+    out: &mut [u32],
+    skip: usize,
+    n: usize,
+    aside: &mut [u32],
+    leave: usize,
+    k: usize,
+) -> Passed
+    requires { ⌜ 11 ≤ length (now places) ⌝ }
+    requires { ⌜ 2040 ≤ length (now rows) ⌝ }
+    requires { ⌜ 768 ≤ length (now prints) ⌝ }
+    requires { ⌜ 1020 ≤ length (now table) ⌝ }
+    requires { ⌜ 510 ≤ length (now enums) ⌝ }
+    requires { ⌜ length (now claims) ≡ 1020 ⌝ }
+    requires { ⌜ n + 33295864 ≤ 2 ^ 40 ⌝ }
+    requires { ⌜ k + 33228540 ≤ 2 ^ 40 ⌝ }
+    ensures { λ r. ⌜ WalksModule (now (doc .entry)) (now (out .entry)) skip n (r .errors) (now (out .exit)) (now (aside .entry)) leave k (r .warnings) (now (aside .exit)) owner at (r .end) ⌝ }
+    ensures { λ r. ⌜ r .errors ≤ n + 33295864 ⌝ }
+    ensures { λ r. ⌜ r .warnings ≤ k + 33228540 ⌝ }
+{
+    let listed = open_printed(doc, at, places, rows, prints);
+    let totals = walk_named(
+        doc,
+        owner,
+        places,
+        rows,
+        prints,
+        listed.count,
+        table,
+        enums,
+        claims,
+        out,
+        skip,
+        n,
+        aside,
+        leave,
+        k,
+    );
+    Passed {
+        errors: totals.errors,
+        warnings: totals.warnings,
+        end: listed.end,
+    }
+}
+
+// Both walks over each module of the list at a place.
+fn walk_modules(
+    doc: &[u8],
+    at: usize,
+    places: &mut [usize],
+    rows: &mut [usize],
+    prints: &mut [u32],
+    table: &mut [usize],
+    enums: &mut [usize],
+    claims: &mut [usize],
+    out: &mut [u32],
+    skip: usize,
+    n: usize,
+    aside: &mut [u32],
+    leave: usize,
+    k: usize,
+) -> Totals
+    requires { ⌜ 11 ≤ length (now places) ⌝ }
+    requires { ⌜ 2040 ≤ length (now rows) ⌝ }
+    requires { ⌜ 768 ≤ length (now prints) ⌝ }
+    requires { ⌜ 1020 ≤ length (now table) ⌝ }
+    requires { ⌜ 510 ≤ length (now enums) ⌝ }
+    requires { ⌜ length (now claims) ≡ 1020 ⌝ }
+    requires { ⌜ n + 532733824 ≤ 2 ^ 40 ⌝ }
+    requires { ⌜ k + 531656640 ≤ 2 ^ 40 ⌝ }
+    ensures { λ r. ⌜ WalksModules (now (doc .entry)) (now (out .entry)) skip n (r .errors) (now (out .exit)) (now (aside .entry)) leave k (r .warnings) (now (aside .exit)) at ⌝ }
+    ensures { λ r. ⌜ r .errors ≤ n + 532733824 ⌝ }
+    ensures { λ r. ⌜ r .warnings ≤ k + 531656640 ⌝ }
+{
+    let c = Cursor { at };
+    let a = c.count(doc, 16);
+    let Answer::Got(count, first) = a else {
+        return Totals {
+            errors: n,
+            warnings: k,
+        };
+    };
+    let mut here = first.at;
+    let mut errors = n;
+    let mut warnings = k;
+    let mut i: u64 = 0;
+    while i < count {
+        let passed = walk_module(
+            doc,
+            here,
+            i as u32,
+            places,
+            rows,
+            prints,
+            table,
+            enums,
+            claims,
+            out,
+            skip,
+            errors,
+            aside,
+            leave,
+            warnings,
+        );
+        here = passed.end;
+        errors = passed.errors;
+        warnings = passed.warnings;
+        i += 1;
+    }
+    Totals { errors, warnings }
+}
+
+// Both walks over a whole document.
+pub(crate) fn walk_all(
+    doc: &[u8],
+    out: &mut [u32],
+    skip: usize,
+    n: usize,
+    aside: &mut [u32],
+    leave: usize,
+    k: usize,
+) -> Totals
+    requires { ⌜ n + 532733824 ≤ 2 ^ 40 ⌝ }
+    requires { ⌜ k + 531656640 ≤ 2 ^ 40 ⌝ }
+    ensures { λ r. ⌜ WalksAll (now (doc .entry)) (now (out .entry)) skip n (r .errors) (now (out .exit)) (now (aside .entry)) leave k (r .warnings) (now (aside .exit)) ⌝ }
+    ensures { λ r. ⌜ r .errors ≤ n + 532733824 ⌝ }
+    ensures { λ r. ⌜ r .warnings ≤ k + 531656640 ⌝ }
+{
+    let mut places = [0usize; 11];
+    let mut rows = [0usize; 2040];
+    let mut prints = [0u32; 768];
+    let mut table = [0usize; 1020];
+    let mut enums = [0usize; 510];
+    let mut claims = [0usize; 1020];
+    let version = after_head(doc, 0);
+    let modules = after(doc, version);
+    walk_modules(
+        doc,
+        modules,
+        &mut places,
+        &mut rows,
+        &mut prints,
+        &mut table,
+        &mut enums,
+        &mut claims,
+        out,
+        skip,
+        n,
+        aside,
+        leave,
+        k,
+    )
+}
