@@ -13,7 +13,7 @@ use Rattle.reading.specs.Limits.{maxList}
 use Rattle.reading.specs.Item.{readCount}
 use Rattle.reading.specs.Text.{Name}
 use Rattle.reading.specs.Combine.{entries, listOf}
-use Rattle.reading.specs.Decl.{ConstructorVariant, ConstructorGroup, readConstructorVariant, readConstructorGroup}
+use Rattle.reading.specs.Decl.{ConstructorGroup, readConstructorVariant, readConstructorGroup}
 use Rattle.reading.specs.Pattern.{PatternVariant}
 use Rattle.reading.specs.Transition.{Transition}
 use Rattle.reading.specs.Skip.{textAt}
@@ -43,17 +43,15 @@ use Rattle.findings.specs.Finding.{Note, note, noted}
 use Rattle.findings.specs.Mentions.{groupName, groupVariants, variantUsed}
 use Rattle.findings.specs.Warnings.{usesEvent, deadIn, dead}
 use Rattle.findings.specs.Noting.{Noted}
-use Rattle.findings.specs.Scene.{Reads, Rows}
+use Rattle.findings.specs.Scene.{PairsFilled, Reads, Rows}
 use Rattle.findings.specs.Promises.{at-place, Groups}
 use Rattle.findings.specs.WarningPromises.{NotesDead}
-use Rattle.findings.specs.Touch.{PairsFilled}
-use Rattle.findings.specs.Uses.{variantNames, isBare, patternNames, patternBare, namedBy, bareBy, usedBy, Named, VariantsAt, variants-here, variants-none, UsesOf, IsUsed, GroupsAt, FirstVariants, Known, unusedVariant, NotesVariant, NotesVariants, NotesGroup, NotesGroups}
+use Rattle.findings.specs.Uses.{variantNames, isBare, patternNames, patternBare, namedBy, bareBy, usedBy, NamesAt, VariantsAt, variants-here, variants-none, UsesOf, IsUsed, GroupsAt, FirstVariants, GroupKnown, unusedVariant, NotesVariant, NotesVariants, NotesGroup, NotesGroups}
 use Rattle.findings.specs.declared.uses.Uses.{Uses}
 use Rattle.findings.proofs.NoteLaws.{note-as}
 use Rattle.findings.proofs.EachLaws.{Left, left-all, get-some, drop-get, eachFrom, each-turn, each-done, Walking, walk-start, walk-refused, walk-more, walk-done}
 use Rattle.findings.proofs.ListLaws.{each-cong}
 use Rattle.findings.proofs.ClaimTables.{pairs-few, filled-front}
-use Rattle.findings.proofs.TouchLaws.{member-append}
 
 -- the transitions that use a variant, by what their patterns give
 absent-use : (a n b : Bool) → (a || (n || (b && a))) ≡ (n || a)
@@ -173,11 +171,11 @@ group-noted s owner o skip n r o′ rows count groups g {text} {text₂} {table}
   of = λ gs x ts c e w q.
       let a : text ≡ x .name = t ∙ c .name-is g x e in
       let b : text₂ ≡ x .name = t₂ ∙ c .name-is g x e in
-      let h : Known s found table u = record {
+      let h : GroupKnown s found table u = record {
         variants = groupVariants (firstCalled groupName (x .name) gs);
         names = namedBy (x .name) ts;
         variants-at = subst (λ (v : Name). VariantsAt s found (groupVariants (firstCalled groupName v gs))) b (z .of gs c);
-        named = subst (λ (v : Name). Named s table (u .named) (namedBy v ts)) a (y .names ts w q);
+        named = subst (λ (v : Name). NamesAt s table (u .named) (namedBy v ts)) a (y .names ts w q);
       } in
       let m : u .bare ≡ bareBy (x .name) ts = y .bare ts w q ∙ ap (λ (v : Name). bareBy v ts) a in
       note-as owner _

@@ -52,6 +52,11 @@ get-some [] i h = absurd (omega arith)
 get-some (y ∷ xs) zero h = (y, refl)
 get-some (y ∷ xs) (suc i) h = get-some xs i (omega arith)
 
+pub get-below : {A : Type 0} (xs : List A) (i : ℕ) (x : A) → getElem? xs i ≡ some x → i < length xs
+get-below [] i x e = no (cc)
+get-below (y ∷ xs) zero x e = omega arith
+get-below (y ∷ xs) (suc i) x e = let h = get-below xs i x e in omega arith
+
 -- the entries from number i on are the entry at i and those after it
 pub drop-get : {A : Type 0} (xs : List A) (i : ℕ) (x : A) → getElem? xs i ≡ some x → drop i xs ≡ x ∷ drop (i + 1) xs
 drop-get [] i x e = no (cc)

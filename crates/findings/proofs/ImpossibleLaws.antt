@@ -1,9 +1,9 @@
 -- What is noted of a guard, by what its judging answers; and of the guards of all transitions, row by row.
 use Prim.Native.Nat.{ℕ, _+_, _<_, _≤_}
-use mathlib.Core.Path.{_≡_, refl, sym, ap, _∙_}
-use mathlib.Core.Bool.{Bool, true, false, cond}
+use mathlib.Core.Path.{_≡_, sym, ap, _∙_}
+use mathlib.Core.Bool.{Bool, true, false}
 use mathlib.Core.List.{List, [], _∷_}
-use mathlib.Core.Option.{Option, none, some}
+use mathlib.Core.Option.{some}
 use native.Mathlib.Omega.{arith}
 use lib.ListN.{length, getD}
 use lib.Dec.{eqb}
@@ -12,15 +12,14 @@ use Rattle.reading.specs.Expr.{Expr}
 use Rattle.reading.specs.Combine.{optional}
 use Rattle.reading.specs.Transition.{Transition, readTopExpr}
 use Rattle.typing.specs.Env.{given}
-use Rattle.typing.specs.Guards.{isLiteralFalse, contradictoryEqualities}
 use Rattle.typing.specs.Holds.{clashOf, LiteralFalse, Contradicts}
 use Rattle.typing.specs.declared.guard.Clash.{Clash}
 use Rattle.typing.specs.declared.guard.Clash.the-variants.{Nothing, Found}
-use Rattle.findings.specs.Lists.{Placed, placed, each}
-use Rattle.findings.specs.Finding.{Note, note, noted}
+use Rattle.findings.specs.Lists.{placed, each}
+use Rattle.findings.specs.Finding.{Note, note}
 use Rattle.findings.specs.Warnings.{impossibleGuard, impossible}
 use Rattle.findings.specs.Noting.{Noted}
-use Rattle.findings.specs.Scene.{Reads, field, Rows}
+use Rattle.findings.specs.Scene.{field, Rows}
 use Rattle.findings.specs.WarningPromises.{NotesGuardImpossible, NotesImpossible}
 use Rattle.findings.proofs.NoteLaws.{note-nothing, note-as}
 use Rattle.findings.proofs.EachLaws.{Left, left-all, get-some, eachFrom, each-turn, each-done}

@@ -2,8 +2,7 @@
 use Prim.Native.Nat.{ℕ, _+_, _-_, _<_, _≤_}
 use mathlib.Core.Path.{_≡_, refl, sym, ap, _∙_}
 use mathlib.Core.Bool.{Bool, true, false}
-use mathlib.Core.List.{List, [], _∷_, _++_, map, append-assoc, append-nil}
-use mathlib.Core.Option.{Option, none, some}
+use mathlib.Core.List.{List, [], _∷_, _++_, append-assoc, append-nil}
 use native.Mathlib.Omega.{arith}
 use lib.ListN.{length, getD, drop, drop-of-length-le}
 use lib.Dec.{eqb}
@@ -31,7 +30,7 @@ use Rattle.typing.specs.Table.{afterItem, afterHead, Past}
 use Rattle.typing.proofs.EnvLaws.{entry, after-is, fields-head}
 use Rattle.findings.specs.Lists.{each}
 use Rattle.findings.specs.Mentions.{collectNames, guardNames, emitNames, touched, errorTouched, allTouched}
-use Rattle.findings.specs.Scene.{Reads, field, Rows}
+use Rattle.findings.specs.Scene.{field, Rows}
 use Rattle.findings.specs.Touch.{Touched, Touches, outputNames, setName, setNames, TouchesExpr, TouchesArgs, TouchesOutput, TouchesEmits, TouchesSet, TouchesSets, Mentions, TouchesRow, TouchesRows, TouchesAll}
 use Rattle.findings.proofs.EachLaws.{get-some, drop-get}
 use Rattle.findings.proofs.OptionLaws.{not-given, is-given}

@@ -8,13 +8,13 @@ use native.Mathlib.Omega.{arith}
 use lib.ListN.{length, getD, set, replicate, length-set, length-replicate, getD-replicate}
 use lib.Seq.{getD-set-same, getD-set-other}
 use lib.Dec.{eqb}
-use borrow.Author.Tests.{eq-eqb, ne-eqb, eqb-true, eqb-false}
-use Rattle.reading.specs.Text.{Name, readName}
+use borrow.Author.Tests.{eqb-true, eqb-false}
+use Rattle.reading.specs.Text.{Name}
 use Rattle.reading.specs.Skip.{textAt}
 use Rattle.reading.proofs.Walks.{name-text}
 use Rattle.typing.specs.Names.{eqName}
 use Rattle.findings.specs.Scene.{field}
-use Rattle.findings.specs.Reaching.{Taken, free, Queued, Stepped, stays, takes, Swept, Chained, first, next, Walked, StartsAt}
+use Rattle.findings.specs.Reaching.{Taken, free, Queued, Stepped, stays, takes, Swept, Chained, first, next, Walked, BeginsAt}
 use Rattle.findings.proofs.TouchLaws.{last-or-before}
 
 same-or-not : (a b : ℕ) → (a ≡ b) ⊎ (a ≡ b → ⊥)
@@ -187,19 +187,19 @@ module _ (T : ℕ → Bool → Type 0) (i : ℕ) (m q : List ℕ) (t : ℕ) wher
     pub step-yes : {m′ q′ : List ℕ} {t′ : ℕ} → b ≡ true → getD m i 0 ≡ 0 → m′ ≡ set m i 1 → q′ ≡ set q t i → t′ ≡ t + 1 → Stepped T i m q t m′ q′ t′
     step-yes e z a c d = takes z (subst (T i) e y) a c d
 
-pub starts-at : (s rows : List ℕ) (w : Name) (i : ℕ) {at : ℕ} {text : Name} {b : Bool} → at ≡ field rows i 1 → text ≡ textAt s at → b ≡ eqName text w → StartsAt s rows w i b
+pub starts-at : (s rows : List ℕ) (w : Name) (i : ℕ) {at : ℕ} {text : Name} {b : Bool} → at ≡ field rows i 1 → text ≡ textAt s at → b ≡ eqName text w → BeginsAt s rows w i b
 starts-at s rows w i e t q = record { of = λ u g. q ∙ ap (λ (x : Name). eqName x w) (t ∙ ap (textAt s) e ∙ name-text s (field rows i 1) (u .state) (field rows i 2) (g .state-is)) }
 
 -- the walk: the first head places of the queue are followed
 module _ (T : ℕ → Bool → Type 0) (U : ℕ → ℕ → Bool → Type 0) (count : ℕ) where
-  pub record Walking (m q : List ℕ) (t head : ℕ) : Type 0 where
+  pub record Following (m q : List ℕ) (t head : ℕ) : Type 0 where
     pub queued : Queued count m q t
     pub start : (j : ℕ) → j < count → Taken m j ⊎ T j false
     pub done : (k j : ℕ) → k < head → j < count → Taken m j ⊎ U (getD q k 0) j false
     pub sound : (j : ℕ) → j < count → Taken m j → Chained T U count j
 
-  pub walking-start : {m q m′ q′ : List ℕ} {t : ℕ} → Queued count m q 0 → Swept T count m q 0 count m′ q′ t → Walking m′ q′ t 0
-  walking-start {m} g x = record {
+  pub following-start : {m q m′ q′ : List ℕ} {t : ℕ} → Queued count m q 0 → Swept T count m q 0 count m′ q′ t → Following m′ q′ t 0
+  following-start {m} g x = record {
     queued = x .queued;
     start = x .new;
     done = λ k j h. absurd (omega arith);
@@ -210,9 +210,9 @@ module _ (T : ℕ → Bool → Type 0) (U : ℕ → ℕ → Bool → Type 0) (co
       go j h (inl z) = let r = g .found j h z in absurd (omega (arith, r .1))
       go j h (inr y) = first y
 
-  module _ {m q : List ℕ} {t head : ℕ} (w : Walking m q t head) where
-    pub walking-more : {m′ q′ : List ℕ} {t′ : ℕ} → head < t → Swept (U (getD q head 0)) count m q t count m′ q′ t′ → Walking m′ q′ t′ (head + 1)
-    walking-more {m′} {q′} {t′} h x = record {
+  module _ {m q : List ℕ} {t head : ℕ} (w : Following m q t head) where
+    pub following-more : {m′ q′ : List ℕ} {t′ : ℕ} → head < t → Swept (U (getD q head 0)) count m q t count m′ q′ t′ → Following m′ q′ t′ (head + 1)
+    following-more {m′} {q′} {t′} h x = record {
       queued = x .queued;
       start = λ j l. up (T j false) j (w .start j l);
       done = λ k j l b. done-go k j b (last-or-before k head l);
@@ -231,8 +231,8 @@ module _ (T : ℕ → Bool → Type 0) (U : ℕ → ℕ → Bool → Type 0) (co
         sound-go j l (inl z) = w .sound j l z
         sound-go j l (inr y) = next (w .sound (getD q head 0) (w .queued .inside head h) (w .queued .taken head h)) (w .queued .inside head h) y
 
-    pub walking-end : t ≤ head → Walked T U count m
-    walking-end h = record {
+    pub following-end : t ≤ head → Walked T U count m
+    following-end h = record {
       start = w .start;
       closed = λ i j a b z.
           let r = w .queued .found i a z in

@@ -75,21 +75,33 @@ module _ (s : List ℕ) {a b : ℕ} (t : Counted s a b) where
 
 -- the document's verdict
 module _ (s o : List ℕ) {v : Verdict} (e : v ≡ verdict (readDocument s)) where
-  pub reply-refused : {f : Fault} {p : ℕ} → v ≡ verdict.Refused f p → (Refused f p ≡ replyTo o (readDocument s)) × (o ≡ sheetOf o (readDocument s))
+  both-refused : {f : Fault} {p : ℕ} → v ≡ verdict.Refused f p → (Refused f p ≡ replyTo o (readDocument s)) × (o ≡ sheetOf o (readDocument s))
   unfolding verdict replyTo sheetOf
-  reply-refused {f} {p} q = go (readDocument s) (sym q ∙ e)
+  both-refused {f} {p} q = go (readDocument s) (sym q ∙ e)
     where
       go : (m : Read Ir) → verdict.Refused f p ≡ verdict m → (Refused f p ≡ replyTo o m) × (o ≡ sheetOf o m)
       go (ok x n) z = no (cc)
       go (refused g k) z = let a : f ≡ g = cc in let b : p ≡ k = cc in (rw (a, b), refl)
 
-  pub reply-accepted : (r : Reply) (o′ : List ℕ) → v ≡ verdict.Accepted → Replies s o r o′ → (r ≡ replyTo o (readDocument s)) × (o′ ≡ sheetOf o (readDocument s))
+  pub refused-reply : {f : Fault} {p : ℕ} → v ≡ verdict.Refused f p → Refused f p ≡ replyTo o (readDocument s)
+  refused-reply q = both-refused q .0
+
+  pub refused-sheet : {f : Fault} {p : ℕ} → v ≡ verdict.Refused f p → o ≡ sheetOf o (readDocument s)
+  refused-sheet q = both-refused q .1
+
+  both-accepted : (r : Reply) (o′ : List ℕ) → v ≡ verdict.Accepted → Replies s o r o′ → (r ≡ replyTo o (readDocument s)) × (o′ ≡ sheetOf o (readDocument s))
   unfolding verdict
-  reply-accepted r o′ q t = go (readDocument s) refl (sym q ∙ e)
+  both-accepted r o′ q t = go (readDocument s) refl (sym q ∙ e)
     where
       go : (m : Read Ir) → readDocument s ≡ m → verdict.Accepted ≡ verdict m → (r ≡ replyTo o (readDocument s)) × (o′ ≡ sheetOf o (readDocument s))
       go (ok x n) g z = let u = t .of x n g in (u .0 ∙ ap (replyTo o) (sym g), u .1 ∙ ap (sheetOf o) (sym g))
       go (refused g k) h z = no (cc)
+
+  pub accepted-reply : (r : Reply) (o′ : List ℕ) → v ≡ verdict.Accepted → Replies s o r o′ → r ≡ replyTo o (readDocument s)
+  accepted-reply r o′ q t = both-accepted r o′ q t .0
+
+  pub accepted-sheet : (r : Reply) (o′ : List ℕ) → v ≡ verdict.Accepted → Replies s o r o′ → o′ ≡ sheetOf o (readDocument s)
+  accepted-sheet r o′ q t = both-accepted r o′ q t .1
 
 -- one finding
 getD-front : (xs ys : List Finding) (k : ℕ) (d : Finding) → k < length xs → getD (xs ++ ys) k d ≡ getD xs k d

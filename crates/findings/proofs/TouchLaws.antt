@@ -4,18 +4,18 @@ use Prim.Native.Nat.{ℕ, suc, _+_, _-_, _*_, _/_, _<_, _≤_}
 use mathlib.Core.Path.{_≡_, refl, sym, ap, subst, _∙_}
 use mathlib.Core.Logic.{_⊎_, inl, inr}
 use mathlib.Core.Bool.{Bool, true, false, cond}
-use mathlib.Core.List.{List, [], _∷_, _++_, map, append-assoc, append-nil}
+use mathlib.Core.List.{List, [], _∷_, _++_}
 use native.Mathlib.Omega.{arith}
-use lib.ListN.{length, getD, set, length-set}
+use lib.ListN.{length, getD, set, length-set, List·getD-eq-default}
 use lib.Seq.{getD-set-same, getD-set-other}
 use lib.Dec.{eqb}
-use borrow.Author.Tests.{eqb-true, eqb-false}
-use Rattle.reading.specs.Read.{Reader, ok, pick}
-use Rattle.reading.specs.Limits.{maxPath, maxList}
+use borrow.Author.Tests.{eq-eqb, eqb-true, eqb-false}
+use Rattle.reading.specs.Read.{ok, pick}
+use Rattle.reading.specs.Limits.{maxPath}
 use Rattle.reading.specs.Item.{readCase, readCount, readTag}
 use Rattle.reading.specs.Text.{Name, readName}
 use Rattle.reading.specs.Expr.{Expr, unaryOps, binOps, readPath, readExpr}
-use Rattle.reading.specs.Combine.{entries, listOf}
+use Rattle.reading.specs.Combine.{entries}
 use Rattle.reading.specs.Skip.{textAt}
 use Rattle.reading.specs.Link.{answer, taggedOf}
 use Rattle.reading.specs.Views.{ExprAt, int-expr, bool-expr, path-expr, unary-expr, binary-expr}
@@ -79,6 +79,9 @@ module _ (s names : List ℕ) where
   -- the same names, told otherwise
   pub touched-as : {m m′ : List ℕ} {xs : List Name} (ys : List Name) → xs ≡ ys → Touched s names m xs m′ → Touched s names m ys m′
   touched-as {m} {m′} ys e p = subst (λ (x : List Name). Touched s names m x m′) e p
+
+pub free-past : (marks : List ℕ) (k : ℕ) → length marks ≤ k → true ≡ eqb (getD marks k 0) 0
+free-past marks k h = sym (eq-eqb (getD marks k 0) 0 (List·getD-eq-default marks 0 h))
 
 -- one variable
 cond-same : (b : Bool) (x : ℕ) → x ≡ 1 → x ≡ cond b 1 x

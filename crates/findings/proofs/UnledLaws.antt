@@ -4,13 +4,13 @@ use mathlib.Core.Path.{_≡_, refl, sym, ap, subst, _∙_}
 use mathlib.Core.Logic.{_⊎_, inl, inr}
 use mathlib.Core.Bool.{Bool, true, false, not, _&&_, _||_, true≢false}
 use mathlib.Core.List.{List, [], _∷_, List·Memᴰ, List·Memᴰ·head, List·Memᴰ·tail, List·Memᴰ·cases-cons, List·Memᴰ·not-nil}
-use mathlib.Core.Option.{Option, none, some}
+use mathlib.Core.Option.{some}
 use native.Mathlib.Omega.{arith}
 use native.Mathlib.Numerals.{add-one}
 use native.Mathlib.Nat.{zero-add}
 use lib.ListN.{length, getD, getElem?, drop, drop-of-length-le}
 use lib.Dec.{eqb}
-use borrow.Author.Tests.{eqb-false, eq-eqb, ne-eqb}
+use borrow.Author.Tests.{eqb-false, ne-eqb}
 use Rattle.reading.specs.Limits.{maxList}
 use Rattle.reading.specs.Item.{readCount}
 use Rattle.reading.specs.Text.{Name, readName}
@@ -32,24 +32,24 @@ use Rattle.typing.specs.declared.table.Found.{Found}
 use Rattle.typing.specs.declared.table.Found.the-variants.{At, Nothing}
 use Rattle.typing.proofs.NameLaws.{eqName-refl, eqName-eq}
 use Rattle.typing.proofs.EnvLaws.{after-is}
-use Rattle.findings.specs.Lists.{Placed, placed, any, each}
-use Rattle.findings.specs.Finding.{Note, note, noted}
+use Rattle.findings.specs.Lists.{placed, any, each}
+use Rattle.findings.specs.Finding.{note, noted}
 use Rattle.findings.specs.Reach.{Leads, reached}
 use Rattle.findings.specs.Warnings.{startsAt, leadsTo, unreachable}
 use Rattle.findings.specs.Demand as demand
 use Rattle.findings.specs.Noting.{Noted}
-use Rattle.findings.specs.Scene.{Reads, field, RowAt, Rows, StatesAt, states-here, states-none}
+use Rattle.findings.specs.Scene.{Reads, field, Rows, StatesAt, states-here, states-none}
 use Rattle.findings.specs.Prints.{Prints}
 use Rattle.findings.specs.Promises.{at-place}
 use Rattle.findings.specs.PairPromises.{LeadsTo}
 use Rattle.findings.specs.WarningPromises.{NotesUnreachable}
-use Rattle.findings.specs.Reaching.{Taken, Chained, first, next, Walked, StartsAt, hitBy, ledTo, IsHit, IsLed, Moves, unledNote, NotesUnled, NotesUnledAt, NotesUnledStates}
+use Rattle.findings.specs.Reaching.{Taken, Chained, first, next, Walked, BeginsAt, hitBy, ledTo, IsHit, IsLed, Moves, unledNote, NotesUnled, NotesUnledAt, NotesUnledStates}
 use Rattle.findings.proofs.NoteLaws.{note-nothing, note-as}
 use Rattle.findings.proofs.ListLaws.{any-some, some-any, each-cong}
 use Rattle.findings.proofs.Places.{mem-placed, placed-mem}
 use Rattle.findings.proofs.Chains.{leads-more, reached-by}
 use Rattle.findings.proofs.Orderless.{starts-meant}
-use Rattle.findings.proofs.EachLaws.{get-some, drop-get, Walking, walk-start, walk-refused, walk-more, walk-done}
+use Rattle.findings.proofs.EachLaws.{get-some, get-below, drop-get, Walking, walk-start, walk-refused, walk-more, walk-done}
 use Rattle.findings.proofs.OptionLaws.{not-given, is-given}
 
 -- a transition by its place
@@ -65,11 +65,6 @@ get-mem : {A : Type 0} (xs : List A) (i : ℕ) (x : A) → getElem? xs i ≡ som
 get-mem [] i x e = no (cc)
 get-mem (y ∷ xs) zero x e = List·Memᴰ·head (let q : x ≡ y = cc in q)
 get-mem (y ∷ xs) (suc i) x e = List·Memᴰ·tail (get-mem xs i x e)
-
-get-below : {A : Type 0} (xs : List A) (i : ℕ) (x : A) → getElem? xs i ≡ some x → i < length xs
-get-below [] i x e = no (cc)
-get-below (y ∷ xs) zero x e = omega arith
-get-below (y ∷ xs) (suc i) x e = let h = get-below xs i x e in omega arith
 
 both-true : (a b : Bool) → (a && b) ≡ true → (a ≡ true) × (b ≡ true)
 both-true true b e = (refl, e)
@@ -88,7 +83,7 @@ not-true true e = absurd (true≢false (sym e))
 not-true false e = refl
 
 -- the walk's marks, for whatever transitions stand in the rows
-module _ (s rows prints : List ℕ) (w : Name) (count : ℕ) (m : List ℕ) (g : Walked (StartsAt s rows w) (LeadsTo s rows prints) count m) (ts : List Transition) (r : Rows s rows ts) (p : Prints prints ts) (c : count ≡ length ts) where
+module _ (s rows prints : List ℕ) (w : Name) (count : ℕ) (m : List ℕ) (g : Walked (BeginsAt s rows w) (LeadsTo s rows prints) count m) (ts : List Transition) (r : Rows s rows ts) (p : Prints prints ts) (c : count ≡ length ts) where
   abbrev Led : Name → Type 0
   Led n = Leads demand.StartsAt leadsTo ts w n
 
@@ -126,7 +121,7 @@ module _ (s rows prints : List ℕ) (w : Name) (count : ℕ) (m : List ℕ) (g :
       taken : Taken m j → ledTo m ts w (leadsTo a) ≡ true
       taken x = taken-hits j a (here .2) x
 
-      from-first : (w ≡ n) → Taken m j ⊎ StartsAt s rows w j false → ledTo m ts w (leadsTo a) ≡ true
+      from-first : (w ≡ n) → Taken m j ⊎ BeginsAt s rows w j false → ledTo m ts w (leadsTo a) ≡ true
       from-first q (inl x) = taken x
       from-first q (inr x) = absurd (true≢false (sym (x .of a (r .at j a (here .2)) ∙ ap (λ (y : Name). eqName y w) (t ∙ sym q) ∙ eqName-refl w)))
 
@@ -139,7 +134,7 @@ module _ (s rows prints : List ℕ) (w : Name) (count : ℕ) (m : List ℕ) (g :
       go (inr (i, u, q, x, z)) = from-taken i u q z (g .closed i j (omega (arith, get-below ts i u q)) inside x)
 
   -- a chain leads to what a taken transition leads to
-  chain : {i : ℕ} (u : Transition) → getElem? ts i ≡ some u → Chained (StartsAt s rows w) (LeadsTo s rows prints) count i → Led (u .next-state)
+  chain : {i : ℕ} (u : Transition) → getElem? ts i ≡ some u → Chained (BeginsAt s rows w) (LeadsTo s rows prints) count i → Led (u .next-state)
   chain {i} u e (first x) =
       let q : u .state ≡ w = eqName-eq (u .state) w (sym (x .of u (r .at i u e))) in
       leads-more demand.StartsAt startsAt leadsTo starts-meant ts w w u (get-mem ts i u e) ([], tt, refl) q
@@ -253,7 +248,7 @@ module _ (s : List ℕ) (owner : ℕ) (o : List ℕ) (skip n : ℕ) (rows : List
   unfolding unreachable
   no-initial q = record { of = λ vs w ts g i r p c. rw (not-given readName s at i e q) (note-nothing owner o skip n) }
 
-  pub unreachable-noted : {text : Name} {m : List ℕ} {r : ℕ} {o′ : List ℕ} → b ≡ false → text ≡ textAt s at → Walked (StartsAt s rows text) (LeadsTo s rows prints) count m → NotesUnledStates s owner o skip n r o′ rows count m at found → NotesUnreachable s owner o skip n r o′ rows count prints found at
+  pub unreachable-noted : {text : Name} {m : List ℕ} {r : ℕ} {o′ : List ℕ} → b ≡ false → text ≡ textAt s at → Walked (BeginsAt s rows text) (LeadsTo s rows prints) count m → NotesUnledStates s owner o skip n r o′ rows count m at found → NotesUnreachable s owner o skip n r o′ rows count prints found at
   unfolding unreachable
   unreachable-noted {text} {m} q t k z = record {
     of = λ vs w ts g i r p c.

@@ -1,18 +1,15 @@
 -- The marks of a module's variables say which are mentioned; and a note for each that is not.
 use Prim.Native.Nat.{ℕ, zero, suc, _+_, _-_, _*_, _/_, _<_, _≤_}
-use mathlib.Core.Path.{_≡_, refl, sym, ap, subst, _∙_}
+use mathlib.Core.Path.{_≡_, ap, _∙_}
 use mathlib.Core.Bool.{Bool, true, false, cond, not}
-use mathlib.Core.List.{List, [], _∷_, _++_}
-use mathlib.Core.Option.{Option, some}
+use mathlib.Core.List.{List, [], _∷_}
+use mathlib.Core.Option.{some}
 use native.Mathlib.Omega.{arith}
 use native.Mathlib.Nat.{sub-zero}
-use lib.ListN.{length, getD, getElem?, replicate, take, drop, length-replicate, getD-replicate, List·getD-eq-default}
-use lib.Seq.{sets, sets-eq, take-at}
+use lib.ListN.{length, getD, getElem?, replicate, take, length-replicate, getD-replicate}
 use lib.Dec.{eqb}
-use borrow.Author.Tests.{eq-eqb}
-use Rattle.reading.specs.Read.{Read, ok, refused}
+use Rattle.reading.specs.Read.{ok}
 use Rattle.reading.specs.Limits.{maxList}
-use Rattle.reading.specs.Item.{readCount}
 use Rattle.reading.specs.Text.{Name}
 use Rattle.reading.specs.Combine.{entries, listOf}
 use Rattle.reading.specs.Decl.{VarDecl, readVarDecl}
@@ -20,25 +17,24 @@ use Rattle.reading.specs.Module.{Module}
 use Rattle.reading.specs.Skip.{textAt}
 use Rattle.reading.proofs.Rules.{no}
 use Rattle.reading.proofs.HeadSound.{Bytes}
-use Rattle.reading.proofs.ItemLaws.{count-kind}
 use Rattle.reading.proofs.DeclLaws.{var-decl-laws}
 use Rattle.reading.proofs.Views.{var-decl-at}
 use Rattle.reading.proofs.ListViews.{list-at}
 use Rattle.reading.proofs.Walks.{name-text}
 use Rattle.typing.specs.Names.{member}
-use Rattle.typing.specs.Table.{afterItem, afterHead, pairsFrom, pairsOf, pairsAt, Filled}
+use Rattle.typing.specs.Table.{pairsFrom, pairsOf, pairsAt}
 use Rattle.typing.proofs.TableLaws.{pairs-length}
 use Rattle.typing.proofs.EnvLaws.{entry, after-is, fields-head}
-use Rattle.findings.specs.Lists.{Placed, placed, each}
+use Rattle.findings.specs.Lists.{Placed, each}
 use Rattle.findings.specs.Finding.{Note, note, noted}
 use Rattle.findings.specs.Mentions.{allTouched}
 use Rattle.findings.specs.Warnings.{unused}
 use Rattle.findings.specs.Noting.{Noted}
-use Rattle.findings.specs.Scene.{Reads, Scene}
-use Rattle.findings.specs.Touch.{varAt, TouchesAll, PairsFilled, Marked, MarksUsed, NotesUnmarked}
+use Rattle.findings.specs.Scene.{PairsFilled, Reads, Scene}
+use Rattle.findings.specs.Touch.{varAt, TouchesAll, Marked, MarksUsed, NotesUnmarked}
 use Rattle.findings.specs.WarningPromises.{NotesUnused}
 use Rattle.findings.proofs.NoteLaws.{note-as}
-use Rattle.findings.proofs.EachLaws.{Left, left-all, get-some, eachFrom, each-turn, each-done}
+use Rattle.findings.proofs.EachLaws.{Left, left-all, get-some, get-below, eachFrom, each-turn, each-done}
 use Rattle.findings.proofs.ClaimTables.{pairs-few, filled-front}
 
 -- the name of variable i, by the table of a list of variables
@@ -63,14 +59,6 @@ module _ (s : List ℕ) (B : Bytes s) where
       let l = list-at readVarDecl s maxList at vs (g .end) (g .is) in
       rw (l .opens) (pairs-length (length vs) s (l .first), var-from vs (l .first) (g .end) (l .entries-are))
 
-pub filled-few : (s : List ℕ) (at : ℕ) (table : List ℕ) (r : ℕ) (table′ : List ℕ) → Filled table (pairsAt s at) r table′ → r ≤ 510
-filled-few s at table r table′ f = omega (arith, pairs-few s at, f .many)
-
-getElem-below : {A : Type 0} (xs : List A) (i : ℕ) (x : A) → getElem? xs i ≡ some x → i < length xs
-getElem-below [] i x e = no (cc)
-getElem-below (y ∷ xs) zero x e = omega arith
-getElem-below (y ∷ xs) (suc i) x e = let h = getElem-below xs i x e in omega arith
-
 module _ (s places rows : List ℕ) (count : ℕ) {at r : ℕ} {table table′ m m′ : List ℕ} (e : at ≡ getD places 7 0) (f : PairsFilled s at table r table′) (t : TouchesAll s rows (take (r - 0) table′) m m′ places count) (h : length table ≡ 512) (z : m ≡ replicate 256 0) where
   pub used-marked : MarksUsed s places rows count (r / 2) m′
   used-marked = record {
@@ -85,7 +73,7 @@ module _ (s places rows : List ℕ) (count : ℕ) {at r : ℕ} {table table′ m
           let u = t .of x c w q in
           let i = p .0 in
           let j = f .filled .many in
-          let l = getElem-below (x .vars) k v g in
+          let l = get-below (x .vars) k v g in
           let b = f .few in
           let o = ap length part in
           let a : getD m k 0 ≡ 0 = ap (λ (y : List ℕ). getD y k 0) z ∙ getD-replicate {A = ℕ} 256 k 0 0 (omega arith) in
@@ -102,9 +90,6 @@ module _ (s places rows : List ℕ) (count : ℕ) {at r : ℕ} {table table′ m
 
       named : (x : Module) → Scene s places x → (length (pairsAt s at) ≡ 2 * length (x .vars)) × ((i : ℕ) (v : VarDecl) → getElem? (x .vars) i ≡ some v → varAt s (pairsAt s at) i ≡ v .name)
       named x c = var-names s (f .each) at (x .vars) (rw e (c .vars-are))
-
-pub free-past : (marks : List ℕ) (k : ℕ) → length marks ≤ k → true ≡ eqb (getD marks k 0) 0
-free-past marks k h = sym (eq-eqb (getD marks k 0) 0 (List·getD-eq-default marks 0 h))
 
 -- what is noted of a variable
 abbrev unusedNote : List Name → Placed VarDecl → List Note

@@ -2,14 +2,14 @@
 use Prim.Native.Nat.{ℕ, zero, suc, _+_, _<_, _≤_}
 use mathlib.Core.Path.{_≡_, refl, sym, ap, subst, _∙_}
 use mathlib.Core.Logic.{_⊎_, inl, inr}
-use mathlib.Core.Bool.{Bool, true, false, cond, _&&_, _||_}
+use mathlib.Core.Bool.{Bool, true, false, _&&_, _||_}
 use mathlib.Core.List.{List, [], _∷_, _++_, map, append-assoc, append-nil}
-use mathlib.Core.Option.{Option, none, some}
+use mathlib.Core.Option.{none, some}
 use native.Mathlib.Omega.{arith}
 use lib.ListN.{length, getD, getElem?, set, drop, length-append, drop-of-length-le}
 use lib.Seq.{getD-set-same, getD-set-other}
 use lib.Dec.{eqb}
-use Rattle.reading.specs.Read.{ok, pick, Read}
+use Rattle.reading.specs.Read.{pick, Read}
 use Rattle.reading.specs.Limits.{maxList}
 use Rattle.reading.specs.Text.{Name}
 use Rattle.reading.specs.Combine.{listOf, optional}
@@ -33,9 +33,9 @@ use Rattle.typing.specs.declared.table.Found.{Found}
 use Rattle.typing.specs.declared.table.Found.the-variants.{At, Nothing}
 use Rattle.typing.proofs.EnvLaws.{after-is, fields-head}
 use Rattle.typing.proofs.FirstLaws.{found-no, found-yes}
-use Rattle.findings.specs.Lists.{any, each}
+use Rattle.findings.specs.Lists.{each}
 use Rattle.findings.specs.Scene.{Reads, field, Rows}
-use Rattle.findings.specs.Uses.{variantNames, isBare, patternNames, patternBare, namedBy, bareBy, usedBy, Named, VariantsAt, variants-here, variants-none, AddsVariant, AddsUse, UsesOf, IsNamed, HasVariant, IsUsed}
+use Rattle.findings.specs.Uses.{variantNames, isBare, patternNames, patternBare, namedBy, bareBy, NamesAt, VariantsAt, variants-here, variants-none, AddsVariant, AddsUse, UsesOf, IsNamed, HasVariant, IsUsed}
 use Rattle.findings.specs.declared.uses.Uses.{Uses}
 use Rattle.findings.proofs.EachLaws.{get-some, drop-get}
 use Rattle.findings.proofs.OptionLaws.{not-given, is-given}
@@ -51,7 +51,7 @@ get-append (z ∷ xs) y (suc k) x e = go (get-append xs y k x e)
     go (inl (p, q)) = inl (ap suc p, q)
     go (inr (p, q)) = inr (omega arith, q)
 
-pub named-more : (s table : List ℕ) (c : ℕ) (ns : List Name) (key : ℕ) (w : Name) → Named s table c ns → c < length table → textAt s key ≡ w → Named s (set table c key) (c + 1) (ns ++ (w ∷ []))
+pub named-more : (s table : List ℕ) (c : ℕ) (ns : List Name) (key : ℕ) (w : Name) → NamesAt s table c ns → c < length table → textAt s key ≡ w → NamesAt s (set table c key) (c + 1) (ns ++ (w ∷ []))
 named-more s table c ns key w g h e = record {
   many = let m = g .many in omega (arith, length-append ns (w ∷ []));
   at = λ k x q. go k x (get-append ns w k x q);
@@ -61,8 +61,8 @@ named-more s table c ns key w g h e = record {
     go k x (inl (p, q)) = ap (λ (i : ℕ). textAt s (getD (set table c key) i 0)) (p ∙ sym (g .many)) ∙ ap (textAt s) (getD-set-same table c key 0 h) ∙ e ∙ q
     go k x (inr (p, q)) = ap (textAt s) (getD-set-other table c k key 0 (λ i. let m = g .many in omega arith)) ∙ g .at k x q
 
-pub named-as : (s table : List ℕ) (c : ℕ) {xs : List Name} (ys : List Name) → xs ≡ ys → Named s table c xs → Named s table c ys
-named-as s table c ys e g = subst (Named s table c) e g
+pub named-as : (s table : List ℕ) (c : ℕ) {xs : List Name} (ys : List Name) → xs ≡ ys → NamesAt s table c xs → NamesAt s table c ys
+named-as s table c ys e g = subst (NamesAt s table c) e g
 
 or-false : (b : Bool) → b ≡ (b || false)
 or-false true = refl
@@ -134,7 +134,7 @@ module _ (s : List ℕ) (at : ℕ) (g : Name) (table : List ℕ) (u : Uses) {nam
 module _ (s rows : List ℕ) (count : ℕ) (g : Name) where
   pub record UsesLeft (table : List ℕ) (i : ℕ) (u : Uses) : Type 0 where
     pub few : u .named ≤ i
-    pub names : (ts : List Transition) → Rows s rows ts → count ≡ length ts → (ns : List Name) × Named s table (u .named) ns × (ns ++ namedBy g (drop i ts) ≡ namedBy g ts)
+    pub names : (ts : List Transition) → Rows s rows ts → count ≡ length ts → (ns : List Name) × NamesAt s table (u .named) ns × (ns ++ namedBy g (drop i ts) ≡ namedBy g ts)
     pub bare : (ts : List Transition) → Rows s rows ts → count ≡ length ts → (u .bare || bareBy g (drop i ts)) ≡ bareBy g ts
 
   pub uses-start : (table : List ℕ) → UsesLeft table 0 (record { named = 0; bare = false })
@@ -177,7 +177,7 @@ module _ (s rows : List ℕ) (count : ℕ) (g : Name) where
 -- a name among those whose places stand in a table
 module _ (s table : List ℕ) (count : ℕ) (w : Name) where
   pub record NamesLeft (k : ℕ) : Type 0 where
-    pub of : (ns : List Name) → Named s table count ns → member w (drop k ns) ≡ member w ns
+    pub of : (ns : List Name) → NamesAt s table count ns → member w (drop k ns) ≡ member w ns
 
   pub names-start : NamesLeft 0
   names-start = record { of = λ ns n. refl }
@@ -188,7 +188,7 @@ module _ (s table : List ℕ) (count : ℕ) (w : Name) where
     names-done h = record { of = λ ns n. let m = n .many in ap (member w) (sym (drop-of-length-le ns {i = k} (omega arith))) ∙ l .of ns n }
 
     module _ {key : ℕ} {text : Name} {b : Bool} (h : k < count) (e : key ≡ getD table k 0) (t : text ≡ textAt s key) (q : b ≡ eqName text w) where
-      here : (ns : List Name) → Named s table count ns → member w ns ≡ pick b true (member w (drop (k + 1) ns))
+      here : (ns : List Name) → NamesAt s table count ns → member w ns ≡ pick b true (member w (drop (k + 1) ns))
       unfolding member
       here ns n =
           let m = n .many in

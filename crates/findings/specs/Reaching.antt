@@ -67,7 +67,7 @@ module _ (T : ℕ → Bool → Type 0) (U : ℕ → ℕ → Bool → Type 0) (co
     pub sound : (j : ℕ) → j < count → Taken m j → Chained j
 
 -- whether transition j starts at a name
-pub record StartsAt (s rows : List ℕ) (w : Name) (j : ℕ) (r : Bool) : Type 0 where
+pub record BeginsAt (s rows : List ℕ) (w : Name) (j : ℕ) (r : Bool) : Type 0 where
   pub of : (u : Transition) → RowAt s rows j u → r ≡ eqName (u .state) w
 
 -- the names that are reached: the first, and those to which what is taken leads

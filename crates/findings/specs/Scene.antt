@@ -1,5 +1,5 @@
 -- Places of a document in tables: those of the fields of a record, and of each record of a list.
-use Prim.Native.Nat.{ℕ, zero, suc, _+_, _*_, _<_}
+use Prim.Native.Nat.{ℕ, zero, suc, _+_, _*_, _<_, _≤_}
 use mathlib.Core.Path.{_≡_}
 use mathlib.Core.List.{List, [], _∷_, _++_}
 use mathlib.Core.Option.{some}
@@ -14,7 +14,7 @@ use Rattle.reading.specs.Decl.{readNames, readEnumDecl, readConstructorGroup, r
 use Rattle.reading.specs.Pattern.{readPattern}
 use Rattle.reading.specs.Transition.{Transition, readTopExpr, readOutputExpr, readAssignment, readOnError, readTransition}
 use Rattle.reading.specs.Module.{Module, readProperty, readModule}
-use Rattle.typing.specs.Table.{afterItem, afterHead}
+use Rattle.typing.specs.Table.{afterItem, afterHead, pairsAt, Filled}
 use Rattle.findings.specs.declared.rows.Listed.{Listed}
 use Rattle.typing.specs.declared.table.Found.{Found}
 use Rattle.typing.specs.declared.table.Found.the-variants.{At, Nothing}
@@ -60,6 +60,12 @@ pub record RowsFilled (s : List ℕ) (at : ℕ) (table : List ℕ) (r : Listed) 
 -- each word is a byte
 abbrev pub Bytes : List ℕ → Type 0
 Bytes s = (i : ℕ) → getD s i 0 < 256
+
+-- the table of the list of records at a place, in a document, which is made of bytes
+pub record PairsFilled (s : List ℕ) (at : ℕ) (table : List ℕ) (r : ℕ) (table′ : List ℕ) : Type 0 where
+  pub filled : Filled table (pairsAt s at) r table′
+  pub few : r ≤ 510
+  pub each : Bytes s
 
 -- content reads at a place
 pub record Reads {A : Type 0} (F : Reader A) (s : List ℕ) (at : ℕ) (x : A) : Type 0 where

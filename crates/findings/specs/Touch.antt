@@ -1,5 +1,5 @@
 -- What the walk over mentioned names promises: for whatever reads there, the variables of the names in it are marked.
-use Prim.Native.Nat.{ℕ, _*_, _/_, _<_, _≤_}
+use Prim.Native.Nat.{ℕ, _*_, _/_, _<_}
 use mathlib.Core.Path.{_≡_}
 use mathlib.Core.List.{List, [], _∷_, map}
 use mathlib.Core.Bool.{cond}
@@ -11,12 +11,11 @@ use Rattle.reading.specs.Item.{readCase}
 use Rattle.reading.specs.Text.{Name}
 use Rattle.reading.specs.Expr.{Expr, unaryOps, binOps, unary, binary, readExpr}
 use Rattle.reading.specs.Combine.{listOf, optional}
-use Rattle.reading.specs.Decl.{VarDecl, readVarDecl}
+use Rattle.reading.specs.Decl.{VarDecl}
 use Rattle.reading.specs.Transition.{OutputExpr, Assignment, Transition, readTopExpr, readOutputExpr, readAssignment}
 use Rattle.reading.specs.Module.{Module}
 use Rattle.reading.specs.Skip.{textAt}
 use Rattle.typing.specs.Names.{eqName, member}
-use Rattle.typing.specs.Table.{pairsAt, Filled}
 use Rattle.findings.specs.Lists.{each}
 use Rattle.findings.specs.Mentions.{collectNames, emitNames, touched, allTouched}
 use Rattle.findings.specs.Warnings.{unused}
@@ -102,12 +101,6 @@ module _ (s rows names m m′ : List ℕ) where
 -- the marks of variables: 1 where the name is used
 pub record Marked (marks : List ℕ) (used : List Name) (vs : List VarDecl) : Type 0 where
   pub at : (k : ℕ) (v : VarDecl) → getElem? vs k ≡ some v → getD marks k 0 ≡ cond (member (v .name) used) 1 0
-
--- the table of the list of records at a place, in a document, which is made of bytes
-pub record PairsFilled (s : List ℕ) (at : ℕ) (table : List ℕ) (r : ℕ) (table′ : List ℕ) : Type 0 where
-  pub filled : Filled table (pairsAt s at) r table′
-  pub few : r ≤ 510
-  pub each : (i : ℕ) → getD s i 0 < 256
 
 -- how many variables a module has, and their marks
 pub record MarksUsed (s places rows : List ℕ) (count r : ℕ) (m : List ℕ) : Type 0 where

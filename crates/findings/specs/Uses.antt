@@ -53,7 +53,7 @@ abbrev pub usedBy : Bool → List Name → List Name → Name → Bool
 usedBy bare vs ns v = member v ns || (bare && member v vs)
 
 -- the first words of a table are the places of names
-pub record Named (s table : List ℕ) (count : ℕ) (ns : List Name) : Type 0 where
+pub record NamesAt (s table : List ℕ) (count : ℕ) (ns : List Name) : Type 0 where
   pub many : count ≡ length ns
   pub at : (k : ℕ) (w : Name) → getElem? ns k ≡ some w → textAt s (getD table k 0) ≡ w
 
@@ -65,27 +65,27 @@ pub data VariantsAt (s : List ℕ) : Found → List Name → Type 0 where
 -- what is added by a pattern's variant, and by a pattern; and what all transitions give
 pub record AddsVariant (s : List ℕ) (at : ℕ) (table : List ℕ) (u : Uses) (table′ : List ℕ) (u′ : Uses) : Type 0 where
   pub few : u′ .named ≤ u .named + 1
-  pub names : (w : Option PatternVariant) → Reads (optional readPatternVariant) s at w → (ns : List Name) → Named s table (u .named) ns → Named s table′ (u′ .named) (ns ++ variantNames w)
+  pub names : (w : Option PatternVariant) → Reads (optional readPatternVariant) s at w → (ns : List Name) → NamesAt s table (u .named) ns → NamesAt s table′ (u′ .named) (ns ++ variantNames w)
   pub bare : (w : Option PatternVariant) → Reads (optional readPatternVariant) s at w → u′ .bare ≡ (u .bare || isBare w)
 
 pub record AddsUse (s : List ℕ) (at : ℕ) (g : Name) (table : List ℕ) (u : Uses) (table′ : List ℕ) (u′ : Uses) : Type 0 where
   pub few : u′ .named ≤ u .named + 1
-  pub names : (p : Pattern) → Reads readPattern s at p → (ns : List Name) → Named s table (u .named) ns → Named s table′ (u′ .named) (ns ++ patternNames g p)
+  pub names : (p : Pattern) → Reads readPattern s at p → (ns : List Name) → NamesAt s table (u .named) ns → NamesAt s table′ (u′ .named) (ns ++ patternNames g p)
   pub bare : (p : Pattern) → Reads readPattern s at p → u′ .bare ≡ (u .bare || patternBare g p)
 
 pub record UsesOf (s rows : List ℕ) (count : ℕ) (g : Name) (table : List ℕ) (u : Uses) : Type 0 where
-  pub names : (ts : List Transition) → Rows s rows ts → count ≡ length ts → Named s table (u .named) (namedBy g ts)
+  pub names : (ts : List Transition) → Rows s rows ts → count ≡ length ts → NamesAt s table (u .named) (namedBy g ts)
   pub bare : (ts : List Transition) → Rows s rows ts → count ≡ length ts → u .bare ≡ bareBy g ts
 
 -- questions
 pub record IsNamed (s table : List ℕ) (count : ℕ) (w : Name) (r : Bool) : Type 0 where
-  pub of : (ns : List Name) → Named s table count ns → r ≡ member w ns
+  pub of : (ns : List Name) → NamesAt s table count ns → r ≡ member w ns
 
 pub record HasVariant (s : List ℕ) (found : Found) (w : Name) (r : Bool) : Type 0 where
   pub of : (vs : List Name) → VariantsAt s found vs → r ≡ member w vs
 
 pub record IsUsed (s : List ℕ) (found : Found) (table : List ℕ) (u : Uses) (w : Name) (r : Bool) : Type 0 where
-  pub of : (vs ns : List Name) → VariantsAt s found vs → Named s table (u .named) ns → r ≡ usedBy (u .bare) vs ns w
+  pub of : (vs ns : List Name) → VariantsAt s found vs → NamesAt s table (u .named) ns → r ≡ usedBy (u .bare) vs ns w
 
 -- a table of groups: pairs of the places of a name and of its variants
 pub record GroupsAt (s groups : List ℕ) (gs : List ConstructorGroup) : Type 0 where
@@ -97,22 +97,22 @@ pub record FirstVariants (s groups : List ℕ) (w : Name) (r : Found) : Type 0 w
   pub of : (gs : List ConstructorGroup) → GroupsAt s groups gs → VariantsAt s r (groupVariants (firstCalled groupName w gs))
 
 -- what is known of a group's uses: the variants of the first group of its name, and the names that patterns give
-pub record Known (s : List ℕ) (found : Found) (table : List ℕ) (u : Uses) : Type 0 where
+pub record GroupKnown (s : List ℕ) (found : Found) (table : List ℕ) (u : Uses) : Type 0 where
   pub variants : List Name
   pub names : List Name
   pub variants-at : VariantsAt s found variants
-  pub named : Named s table (u .named) names
+  pub named : NamesAt s table (u .named) names
 
 -- a variant of group g, by what is known
-abbrev pub unusedVariant : {s : List ℕ} {found : Found} {table : List ℕ} (u : Uses) → ℕ → Known s found table u → Placed ConstructorVariant → List Note
+abbrev pub unusedVariant : {s : List ℕ} {found : Found} {table : List ℕ} (u : Uses) → ℕ → GroupKnown s found table u → Placed ConstructorVariant → List Note
 unusedVariant u g h v = noted (not (usedBy (u .bare) (h .variants) (h .names) (declaredName (v .item)))) (note 22 g (v .place) 0)
 
 module _ (s : List ℕ) (owner : ℕ) (o : List ℕ) (skip n r : ℕ) (o′ : List ℕ) where
   pub record NotesVariant (found : Found) (table : List ℕ) (u : Uses) (g at j : ℕ) : Type 0 where
-    pub of : (h : Known s found table u) (x : ConstructorVariant) → Reads readConstructorVariant s at x → Noted owner o skip n (unusedVariant u g h (at-place j x)) r o′
+    pub of : (h : GroupKnown s found table u) (x : ConstructorVariant) → Reads readConstructorVariant s at x → Noted owner o skip n (unusedVariant u g h (at-place j x)) r o′
 
   pub record NotesVariants (found : Found) (table : List ℕ) (u : Uses) (g at : ℕ) : Type 0 where
-    pub of : (h : Known s found table u) (xs : List ConstructorVariant) → Reads (listOf maxList readConstructorVariant) s at xs → Noted owner o skip n (each (unusedVariant u g h) (placed 0 xs)) r o′
+    pub of : (h : GroupKnown s found table u) (xs : List ConstructorVariant) → Reads (listOf maxList readConstructorVariant) s at xs → Noted owner o skip n (each (unusedVariant u g h) (placed 0 xs)) r o′
 
   -- group g of a table of groups, and all of them
   module _ (rows : List ℕ) (count : ℕ) (groups : List ℕ) where

@@ -1,6 +1,6 @@
 // Events that no transition uses: site 22.
+use crate::rows::fill_pairs;
 use crate::sheet::emit_if;
-use crate::unused::fill_pairs;
 use crate::uses::Uses;
 use crate::uses::fill_uses;
 use crate::uses::is_used;

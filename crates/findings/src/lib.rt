@@ -34,5 +34,34 @@ mod walk;
 mod warnings;
 mod whole;
 
+use reading::Verdict;
+use reading::read_document;
 pub use reply::Line;
 pub use reply::Reply;
+ghost use mathlib.Core.Path.{_≡_};
+ghost use Rattle.reading.specs.Document.{readDocument};
+ghost use Rattle.findings.specs.Reply.{replyTo, sheetOf, lineTo};
+
+// All findings of a document: five words each, errors first, from the front of the lent words; the words past them keep
+// their contents. Nothing is written where the document is refused or the words are too few.
+pub fn findings(doc: &[u8], out: &mut [u32]) -> Reply
+    ensures { λ r. ⌜ r ≡ replyTo (now (out .entry)) (readDocument (now (doc .entry))) ⌝ }
+    ensures { λ _. ⌜ now (out .exit) ≡ sheetOf (now (out .entry)) (readDocument (now (doc .entry))) ⌝ }
+{
+    let verdict = read_document(doc);
+    match verdict {
+        Verdict::Accepted => call::reply(doc, out),
+        Verdict::Refused(fault, place) => Reply::Refused(fault, place),
+    }
+}
+
+// Finding number k of a document, or how many there are.
+pub fn finding_at(doc: &[u8], k: usize) -> Line
+    ensures { λ r. ⌜ r ≡ lineTo k (readDocument (now (doc .entry))) ⌝ }
+{
+    let verdict = read_document(doc);
+    match verdict {
+        Verdict::Accepted => call::line(doc, k),
+        Verdict::Refused(fault, place) => Line::Refused(fault, place),
+    }
+}

@@ -1,7 +1,7 @@
 // State variants that no chain of transitions leads to: site 21.
 use crate::rows::field;
 use crate::sheet::emit_if;
-use crate::unused::is_free;
+use crate::touch::is_free;
 use crate::walk::walk;
 use reading::Answer;
 use reading::Cursor;

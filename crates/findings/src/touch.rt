@@ -6,10 +6,24 @@ use reading::text_at;
 use typing::after;
 use typing::after_expr;
 use typing::same;
+ghost use mathlib.Core.Path.{_≡_};
 ghost use mathlib.Core.List.{[], _∷_};
+ghost use lib.ListN.{getD};
+ghost use lib.Dec.{eqb};
 ghost use Rattle.reading.specs.Expr.{readPath};
 ghost use Rattle.findings.specs.Mentions.{soleName};
 ghost use Rattle.findings.specs.Touch.{Touched, VarTouched, Touches, TouchesExpr, TouchesUnary, TouchesBinary};
+
+// Whether place k is not marked.
+pub(crate) fn is_free(marks: &[u8], k: u8) -> bool
+    ensures { λ r. ⌜ r ≡ eqb (getD (now (marks .entry)) k 0) 0 ⌝ }
+{
+    let at = k as usize;
+    if at < marks.len() {
+        return marks[at] == 0;
+    }
+    true
+}
 
 // Marks variable k, whose name stands at a place, where it has the name and is not marked.
 pub(crate) fn touch_var<'a>(doc: &'a [u8], key: usize, name: &'a [u8], k: usize, marks: &mut [u8])

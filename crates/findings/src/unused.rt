@@ -1,25 +1,14 @@
 // Variables that nothing mentions: site 23.
 use crate::mentions::touch_all;
+use crate::rows::fill_pairs;
 use crate::rows::word;
 use crate::sheet::emit_if;
-use typing::fill_table;
+use crate::touch::is_free;
 ghost use mathlib.Core.Path.{_≡_};
 ghost use Prim.Native.Nat.{_+_, _≤_, _^_};
-ghost use lib.ListN.{length, getD, replicate};
-ghost use lib.Dec.{eqb};
-ghost use Rattle.findings.specs.Touch.{PairsFilled, MarksUsed, NotesUnmarked};
+ghost use lib.ListN.{length, replicate};
+ghost use Rattle.findings.specs.Touch.{MarksUsed, NotesUnmarked};
 ghost use Rattle.findings.specs.WarningPromises.{NotesUnused};
-
-// Whether variable k is not marked.
-pub(crate) fn is_free(marks: &[u8], k: u8) -> bool
-    ensures { λ r. ⌜ r ≡ eqb (getD (now (marks .entry)) k 0) 0 ⌝ }
-{
-    let at = k as usize;
-    if at < marks.len() {
-        return marks[at] == 0;
-    }
-    true
-}
 
 // A note for each of so many variables that is not marked.
 pub(crate) fn note_unmarked(
@@ -42,13 +31,6 @@ pub(crate) fn note_unmarked(
         k += 1;
     }
     m
-}
-
-// Fills the table of the list of records at a place; how many words it takes.
-pub(crate) fn fill_pairs(doc: &[u8], at: usize, table: &mut [usize]) -> usize
-    ensures { λ r. ⌜ PairsFilled (now (doc .entry)) at (now (table .entry)) r (now (table .exit)) ⌝ }
-{
-    fill_table(doc, at, table)
 }
 
 // Marks the variables that are mentioned; how many variables there are.

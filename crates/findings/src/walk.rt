@@ -7,7 +7,7 @@ ghost use mathlib.Core.Path.{_≡_};
 ghost use Prim.Native.Nat.{_+_, _<_};
 ghost use lib.ListN.{length, set};
 ghost use Rattle.findings.specs.PairPromises.{LeadsTo};
-ghost use Rattle.findings.specs.Reaching.{Queued, Stepped, Swept, Walked, StartsAt};
+ghost use Rattle.findings.specs.Reaching.{Queued, Stepped, Swept, Walked, BeginsAt};
 
 // Takes transition i; the queue's next place.
 fn take(i: u8, marks: &mut [u8], queue: &mut [u8], tail: usize) -> usize
@@ -36,7 +36,7 @@ fn start_one<'a>(
 ) -> usize
     requires { ⌜ Queued count (now marks) (now queue) tail ⌝ }
     requires { ⌜ i < count ⌝ }
-    ensures { λ r. ⌜ Stepped (StartsAt (now (doc .entry)) (now (rows .entry)) (now (name .entry))) i (now (marks .entry)) (now (queue .entry)) tail (now (marks .exit)) (now (queue .exit)) r ⌝ }
+    ensures { λ r. ⌜ Stepped (BeginsAt (now (doc .entry)) (now (rows .entry)) (now (name .entry))) i (now (marks .entry)) (now (queue .entry)) tail (now (marks .exit)) (now (queue .exit)) r ⌝ }
 {
     let at = i as usize;
     if marks[at] != 0 {
@@ -58,7 +58,7 @@ pub(crate) fn start_all<'a>(
     queue: &mut [u8],
 ) -> usize
     requires { ⌜ Queued count (now marks) (now queue) 0 ⌝ }
-    ensures { λ r. ⌜ Swept (StartsAt (now (doc .entry)) (now (rows .entry)) (now (name .entry))) count (now (marks .entry)) (now (queue .entry)) 0 count (now (marks .exit)) (now (queue .exit)) r ⌝ }
+    ensures { λ r. ⌜ Swept (BeginsAt (now (doc .entry)) (now (rows .entry)) (now (name .entry))) count (now (marks .entry)) (now (queue .entry)) 0 count (now (marks .exit)) (now (queue .exit)) r ⌝ }
 {
     let mut tail: usize = 0;
     let mut i: u8 = 0;
@@ -132,7 +132,7 @@ pub(crate) fn walk<'a>(
     queue: &mut [u8],
 )
     requires { ⌜ Queued count (now marks) (now queue) 0 ⌝ }
-    ensures { λ _. ⌜ Walked (StartsAt (now (doc .entry)) (now (rows .entry)) (now (name .entry))) (LeadsTo (now (doc .entry)) (now (rows .entry)) (now (prints .entry))) count (now (marks .exit)) ⌝ }
+    ensures { λ _. ⌜ Walked (BeginsAt (now (doc .entry)) (now (rows .entry)) (now (name .entry))) (LeadsTo (now (doc .entry)) (now (rows .entry)) (now (prints .entry))) count (now (marks .exit)) ⌝ }
 {
     let mut tail = start_all(doc, rows, count, name, marks, queue);
     let mut head: usize = 0;

@@ -1,9 +1,14 @@
-//! Time of a call: the library's reading beside the decoder's.
+//! Time of a call: the library's reading beside the decoder's, and typing
+//! beside reading.
 
+use crate::causes;
 use crate::decode::{answer, decode};
 use crate::offer::Reader;
 use crate::samples::{samples, Sample};
+use std::fs;
 use std::hint::black_box;
+use std::path::Path;
+use std::process::Command;
 use std::time::Instant;
 
 const ROUNDS: usize = 301;
@@ -63,4 +68,73 @@ fn time(call: impl Fn(), calls: u32) -> f64 {
 fn median(mut times: Vec<f64>) -> f64 {
     times.sort_by(f64::total_cmp);
     times[times.len() / 2]
+}
+
+const TYPING_ROUNDS: usize = 101;
+
+/// One run of the program takes about this long, beside its start.
+const RUN_NANOSECONDS: f64 = 10_000_000.0;
+
+/// The program `causes` on each sample, reading and typing in turn, so many
+/// times in one run; each sample has a folder in `dir`.
+pub fn typing(program: &Path, dir: &Path) -> Result<(), String> {
+    let failed = |e: std::io::Error| format!("{}: {e}", dir.display());
+    let found = program.canonicalize();
+    let program = found.map_err(|e| format!("{}: {e}", program.display()))?;
+    for sample in samples() {
+        let dir = &dir.join(sample.name);
+        fs::create_dir_all(dir).map_err(failed)?;
+        let ir = decode(&sample.bytes).expect("a sample is accepted");
+        let record = causes::record(&ir).typed();
+        let file = causes::file(std::slice::from_ref(&record));
+        fs::write(dir.join(causes::FILE), file).map_err(failed)?;
+        let run = |mode: &str, times: u32| run(&program, dir, mode, times);
+        typing_line(&sample, record.steps.len(), run)?;
+    }
+    Ok(())
+}
+
+/// The fastest of many runs of each, less the fastest that does nothing.
+fn typing_line(
+    sample: &Sample,
+    steps: usize,
+    run: impl Fn(&str, u32) -> Result<f64, String>,
+) -> Result<(), String> {
+    const MODES: [&str; 2] = ["read", "type"];
+    let mut calls = [0; 2];
+    for (mode, calls) in MODES.iter().zip(&mut calls) {
+        run(mode, 100)?;
+        *calls = (RUN_NANOSECONDS / run(mode, 100)? * 100.0) as u32 + 1;
+    }
+    let mut start = f64::MAX;
+    let mut fastest = [f64::MAX; 2];
+    for _ in 0..TYPING_ROUNDS {
+        start = start.min(run("read", 0)?);
+        for ((mode, calls), fastest) in MODES.iter().zip(calls).zip(&mut fastest) {
+            *fastest = fastest.min(run(mode, calls)?);
+        }
+    }
+    let read = (fastest[0] - start) / f64::from(calls[0]);
+    let typed = (fastest[1] - start) / f64::from(calls[1]);
+    println!(
+        "{:<6} {:>6} bytes, {steps:>5} steps: read {read:>9.0} ns, type {typed:>9.0} ns, type/read {:.2}",
+        sample.name,
+        sample.bytes.len(),
+        typed / read
+    );
+    Ok(())
+}
+
+/// Nanoseconds of one run of the program.
+fn run(program: &Path, dir: &Path, mode: &str, times: u32) -> Result<f64, String> {
+    let mut command = Command::new(program);
+    command.current_dir(dir).args([mode, &times.to_string()]);
+    let start = Instant::now();
+    let output = command.output().map_err(|e| e.to_string())?;
+    let time = start.elapsed().as_nanos() as f64;
+    let due = format!("{times} times, 0 answered otherwise\n");
+    match output.stdout == due.as_bytes() {
+        true => Ok(time),
+        false => Err(String::from_utf8_lossy(&output.stdout).into_owned()),
+    }
 }

@@ -2,13 +2,16 @@
 //! over it, and damaged ones. Everything follows from the seed.
 
 pub mod build;
+pub mod cases;
 pub mod damage;
 pub mod deep;
 pub mod depth;
 pub mod disturb;
 pub mod limits;
+pub mod planted;
 pub mod rng;
 pub mod seeds;
+pub mod typed;
 pub mod valid;
 pub mod whole;
 
@@ -67,7 +70,8 @@ impl Source {
     pub fn next(&mut self) -> Document {
         let rng = &mut self.rng;
         match rng.below(1000) {
-            0..=99 => whole::small(rng),
+            0..=79 => whole::small(rng),
+            80..=99 => whole::nearly_sound(rng),
             100..=129 => whole::middle(rng),
             130..=132 => whole::large(rng),
             133 => whole::full(rng),

@@ -2,6 +2,7 @@
 //! compared with it.
 
 mod bench;
+mod causes;
 mod compare;
 mod decode;
 mod encode;
@@ -10,6 +11,10 @@ mod json;
 mod offer;
 mod original;
 mod samples;
+#[cfg(test)]
+mod site_tests;
+mod sites;
+mod table;
 #[cfg(test)]
 mod tests;
 mod vectors;
@@ -27,10 +32,16 @@ use std::process::ExitCode;
 const USAGE: &str = "usage:
   oracle vectors DIR        write DIR/vectors.bin and print its counts
   oracle same DIR           fail unless DIR/vectors.bin is what `vectors` writes
+  oracle causes DIR         write DIR/vectors.bin with causes, and print counts
+  oracle same-causes DIR    fail unless DIR/vectors.bin is what `causes` writes
+  oracle items DIR N SEED   write DIR/vectors.bin with N other documents, and
+                            print what the replay is to print
   oracle compare [N [SEED]] the library beside the decoder on N documents
   oracle sweep              the same on every small change of small documents
   oracle bench              time of the library beside the decoder
-  oracle write DIR          write the benchmark documents";
+  oracle typing PROGRAM DIR time of typing beside reading, by the replay's program
+  oracle write DIR          write the benchmark documents
+  oracle table [N [SEED]]   what the original finds on N planted documents";
 
 const NO_LIBRARY: &str = "this build has no library: \
 build with `--features offer`; OFFER_LIB names the folder of liboffer.a";
@@ -41,12 +52,21 @@ fn main() -> ExitCode {
     let done = match args[..] {
         ["vectors", dir] => write_vectors(Path::new(dir)),
         ["same", dir] => same_vectors(Path::new(dir)),
+        ["causes", dir] => write_causes(Path::new(dir)),
+        ["same-causes", dir] => same_causes(Path::new(dir)),
+        ["items", dir, count, seed] => {
+            number(count).and_then(|n| write_items(Path::new(dir), n, number(seed)?))
+        }
         ["compare"] => compare(200_000, 1),
         ["compare", count] => number(count).and_then(|n| compare(n, 1)),
         ["compare", count, seed] => number(count).and_then(|n| compare(n, number(seed)?)),
         ["sweep"] => sweep(),
         ["bench"] => library().map(bench::bench),
+        ["typing", program, dir] => bench::typing(Path::new(program), Path::new(dir)),
         ["write", dir] => write_samples(Path::new(dir)),
+        ["table"] => table(20_000, 1),
+        ["table", count] => number(count).and_then(|n| table(n, 1)),
+        ["table", count, seed] => number(count).and_then(|n| table(n, number(seed)?)),
         _ => Err(USAGE.to_string()),
     };
     match done {
@@ -91,14 +111,53 @@ fn write_vectors(dir: &Path) -> Done {
 }
 
 fn same_vectors(dir: &Path) -> Done {
-    let path = dir.join(vectors::FILE);
-    let kept = fs::read(&path).map_err(|e| format!("{}: {e}", path.display()))?;
     let all = vectors::vectors();
-    if kept != vectors::file(&all) {
-        return Err(format!("{} is not what is made now", path.display()));
-    }
-    println!("{} vectors, {} bytes, the same", all.len(), kept.len());
+    same_file(dir, vectors::FILE, &vectors::file(&all))?;
+    println!("{} vectors, the same", all.len());
     Ok(())
+}
+
+fn write_causes(dir: &Path) -> Done {
+    let all = causes::records();
+    write_file(dir, causes::FILE, &causes::file(&all))?;
+    causes::report(&all);
+    Ok(())
+}
+
+fn same_causes(dir: &Path) -> Done {
+    let all = causes::records();
+    same_file(dir, causes::FILE, &causes::file(&all))?;
+    println!("{} documents with causes, the same", all.len());
+    Ok(())
+}
+
+fn write_items(dir: &Path, count: usize, seed: u64) -> Done {
+    let all = causes::many(count, seed);
+    let path = dir.join(causes::FILE);
+    fs::create_dir_all(dir)
+        .and_then(|()| fs::write(&path, causes::file(&all)))
+        .map_err(|e| format!("{}: {e}", path.display()))?;
+    println!("{}", causes::due_line(&all));
+    Ok(())
+}
+
+/// The file must have just these bytes.
+fn same_file(dir: &Path, name: &str, bytes: &[u8]) -> Done {
+    let path = dir.join(name);
+    let kept = fs::read(&path).map_err(|e| format!("{}: {e}", path.display()))?;
+    match kept == bytes {
+        true => Ok(()),
+        false => Err(format!("{} is not what is made now", path.display())),
+    }
+}
+
+fn table(count: usize, seed: u64) -> Done {
+    let table = table::Table::of(count, seed);
+    table.print();
+    match table.is_whole() {
+        true => Ok(()),
+        false => Err("a site or cause is missing, or one is there that cannot be".to_string()),
+    }
 }
 
 fn write_samples(dir: &Path) -> Done {

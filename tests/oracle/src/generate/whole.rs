@@ -2,13 +2,18 @@
 //! limit or over it.
 
 use super::rng::Rng;
-use super::{limits, valid, Document, LONGEST};
+use super::{limits, planted, valid, Document, LONGEST};
 use crate::encode::{itemise, Encoded};
 use crate::lang::ir::Ir;
 
 pub fn small(rng: &mut Rng) -> Document {
     let size = rng.between(0, 400);
     Document::whole("accepted small", itemise(&valid::document(rng, size)))
+}
+
+/// Mostly sound, so that the original's findings are few and of every kind.
+pub fn nearly_sound(rng: &mut Rng) -> Document {
+    Document::whole("nearly sound", itemise(&planted::document(rng)))
 }
 
 pub fn middle(rng: &mut Rng) -> Document {

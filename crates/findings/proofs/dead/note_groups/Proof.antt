@@ -3,7 +3,6 @@ use mathlib.Core.Path.{_≡_}
 use Prim.Native.Nat.{_+_, _-_, _*_, _≤_}
 use lib.ListN.{length}
 use native.Mathlib.Omega.{arith}
-use borrow.Author.Needs.{needs}
 use Rattle.findings.proofs.DeadLaws.{GroupsLeft, groups-start, groups-more, groups-done}
 use Rattle.findings.proofs.dead.note_groups.Statement.{statement}
 use Rattle.findings.proofs.dead.note_groups.Tie as tie

@@ -1,6 +1,5 @@
 -- By whether the pattern is of the group.
 use borrow.Author.Needs.{needs}
-use native.Mathlib.Omega.{arith}
 use Rattle.findings.proofs.UseLaws.{use-own, use-other}
 use Rattle.findings.proofs.uses.add_use.Statement.{statement}
 use Rattle.findings.proofs.uses.add_use.Tie as tie

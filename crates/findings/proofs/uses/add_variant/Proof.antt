@@ -1,6 +1,5 @@
 -- A pattern without variant, or with one.
 use borrow.Author.Needs.{needs}
-use native.Mathlib.Omega.{arith}
 use Rattle.findings.proofs.UseLaws.{variant-absent, variant-present}
 use Rattle.findings.proofs.uses.add_variant.Statement.{statement}
 use Rattle.findings.proofs.uses.add_variant.Tie as tie

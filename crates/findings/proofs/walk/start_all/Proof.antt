@@ -2,14 +2,14 @@
 use Prim.Native.Nat.{_-_, _≤_}
 use native.Mathlib.Omega.{arith}
 use borrow.Author.Needs.{needs}
-use Rattle.findings.specs.Reaching.{Swept, StartsAt}
+use Rattle.findings.specs.Reaching.{Swept, BeginsAt}
 use Rattle.findings.proofs.ReachLaws.{sweep-none, sweep-more, sweep-all}
 use Rattle.findings.proofs.walk.start_all.Statement.{statement}
 use Rattle.findings.proofs.walk.start_all.Tie as tie
 
 abbrev Inv-loop : tie.InvT-loop
 Inv-loop doc rows count name marks₀ queue₀ tail₀ i₀ marks queue tail i =
-    (i ≤ count) × Swept (StartsAt doc rows name) count marks₀ queue₀ 0 i marks queue tail
+    (i ≤ count) × Swept (BeginsAt doc rows name) count marks₀ queue₀ 0 i marks queue tail
 
 abbrev μ-loop : tie.MeasureT-loop
 μ-loop doc rows count name marks₀ queue₀ tail₀ i₀ marks queue tail i = count - i

@@ -3,14 +3,14 @@ use Prim.Native.Nat.{_-_, _≤_}
 use native.Mathlib.Omega.{arith}
 use borrow.Author.Needs.{needs}
 use Rattle.findings.specs.PairPromises.{LeadsTo}
-use Rattle.findings.specs.Reaching.{StartsAt}
-use Rattle.findings.proofs.ReachLaws.{Walking, walking-start, walking-more, walking-end}
+use Rattle.findings.specs.Reaching.{BeginsAt}
+use Rattle.findings.proofs.ReachLaws.{Following, following-start, following-more, following-end}
 use Rattle.findings.proofs.walk.walk.Statement.{statement}
 use Rattle.findings.proofs.walk.walk.Tie as tie
 
 abbrev Inv-loop : tie.InvT-loop
 Inv-loop doc rows prints count name marks₀ queue₀ tail₀ head₀ marks queue tail head =
-    (tail ≤ 255) × Walking (StartsAt doc rows name) (LeadsTo doc rows prints) count marks queue tail head
+    (tail ≤ 255) × Following (BeginsAt doc rows name) (LeadsTo doc rows prints) count marks queue tail head
 
 abbrev μ-loop : tie.MeasureT-loop
 μ-loop doc rows prints count name marks₀ queue₀ tail₀ head₀ marks queue tail head = 256 - head
@@ -22,12 +22,12 @@ walk-spec =
     Inv-loop
     μ-loop
     (λ c κs. search needs)
-    (λ c. (omega arith, search walking-start))
+    (λ c. (omega arith, search following-start))
     (λ c. omega arith)
     (λ c κs. search needs)
     (λ c. omega arith)
     (λ c. omega arith)
-    (λ c. (omega arith, search walking-more))
+    (λ c. (omega arith, search following-more))
     (λ c. omega arith)
     (λ c. omega arith)
-    (λ c. search walking-end))
+    (λ c. search following-end))

@@ -1,9 +1,9 @@
 -- A list has at most 255 entries.
 use borrow.Author.Needs.{needs}
 use native.Mathlib.Omega.{arith}
-use Rattle.findings.proofs.UnusedLaws.{filled-few}
-use Rattle.findings.proofs.unused.fill_pairs.Statement.{statement}
-use Rattle.findings.proofs.unused.fill_pairs.Tie as tie
+use Rattle.findings.proofs.ClaimTables.{filled-few}
+use Rattle.findings.proofs.rows.fill_pairs.Statement.{statement}
+use Rattle.findings.proofs.rows.fill_pairs.Tie as tie
 
 pub fill-pairs-spec : {M : Type 1} → statement M
 fill-pairs-spec =

@@ -1,0 +1,200 @@
+// The steps of one record.
+use crate::judge::number_of;
+use crate::judge::sees_bindings;
+use crate::tally::Tally;
+use crate::tally::counted;
+use crate::tally::document;
+use crate::tally::print;
+use crate::tally::print_number;
+use crate::tally::word;
+
+// A step: the kind of an item, the number that is due, and the item's place.
+struct Step {
+    kind: u64,
+    due: u32,
+    at: usize,
+}
+
+// Where the groups of events and of outputs stand; how many words of the tables are filled with enums, with variables,
+// and with variables and bindings; and the number that was given last.
+struct State {
+    events: usize,
+    outputs: usize,
+    enums: usize,
+    vars: usize,
+    bound: usize,
+    given: u32,
+}
+
+fn start() -> State {
+    State {
+        events: 0,
+        outputs: 0,
+        enums: 0,
+        vars: 0,
+        bound: 0,
+        given: 0,
+    }
+}
+
+fn step_of(w: u64) -> Step {
+    Step {
+        kind: w % 256,
+        due: (w / 256 % 256) as u32,
+        at: (w / 65536 % 65536) as usize,
+    }
+}
+
+// The word that starts at a place; 0 where it does not end in the slice.
+fn word_at(s: &[u8], at: usize) -> u64 {
+    if s.len() <= at {
+        return 0;
+    }
+    if s.len() - at < 4 {
+        return 0;
+    }
+    word(s[at], s[at + 1], s[at + 2], s[at + 3])
+}
+
+fn with_enums(t: State, words: usize) -> State {
+    let mut out = t;
+    out.enums = words;
+    out
+}
+
+fn with_vars(t: State, words: usize) -> State {
+    let mut out = t;
+    out.vars = words;
+    out.bound = words;
+    out
+}
+
+// One of a module's lists.
+fn set_up(doc: &[u8], s: Step, names: &mut [usize], enums: &mut [usize], t: State) -> State {
+    let kind = s.kind;
+    let at = s.at;
+    if kind == 0 {
+        return with_enums(t, typing::fill_table(doc, at, enums));
+    }
+    if kind == 1 {
+        return with_vars(t, typing::fill_table(doc, at, names));
+    }
+    let mut out = t;
+    if kind == 2 {
+        out.events = at;
+        return out;
+    }
+    out.outputs = at;
+    out
+}
+
+// The sum of two counts; a million where one is larger.
+fn together(a: usize, b: usize) -> usize {
+    if 1000000 < a {
+        return 1000000;
+    }
+    if 1000000 < b {
+        return 1000000;
+    }
+    a + b
+}
+
+// A pattern: its bindings stand after the variables.
+fn bind(doc: &[u8], s: Step, names: &mut [usize], t: State) -> State {
+    let b = typing::validate_event_pattern(doc, s.at, t.events, names, t.vars);
+    let blame = b.blame;
+    let mut out = t;
+    out.bound = together(t.vars, b.words);
+    out.given = typing::blame_number(doc, blame);
+    out
+}
+
+// How many words of the names an item of the kind sees.
+fn seen(kind: u64, t: State) -> usize {
+    if sees_bindings(kind) {
+        return t.bound;
+    }
+    t.vars
+}
+
+// Any other item, with the names it sees; 255 where the tables have too few words.
+fn ask<'a>(doc: &'a [u8], s: Step, names: &'a [usize], enums: &'a [usize], t: State) -> u32 {
+    let kind = s.kind;
+    let start = 0;
+    let n = seen(kind, t);
+    let e = t.enums;
+    if names.len() < n {
+        return 255;
+    }
+    if enums.len() < e {
+        return 255;
+    }
+    number_of(
+        doc,
+        kind,
+        s.at,
+        t.outputs,
+        &names[start..n],
+        &enums[start..e],
+    )
+}
+
+fn advance(doc: &[u8], s: Step, names: &mut [usize], enums: &mut [usize], t: State) -> State {
+    if s.kind < 4 {
+        return set_up(doc, s, names, enums, t);
+    }
+    if s.kind == 5 {
+        return bind(doc, s, names, t);
+    }
+    let mut out = t;
+    out.given = ask(doc, s, names, enums, t);
+    out
+}
+
+// Counts an item, and prints it where another number is due.
+fn note(t: Tally, s: Step, given: u32) -> Tally {
+    if s.kind < 4 {
+        return t;
+    }
+    if given != s.due {
+        print(b"document ");
+        print_number(t.documents);
+        print(b", kind ");
+        print_number(s.kind);
+        print(b" at ");
+        print_number(s.at as u64);
+        print(b": due ");
+        print_number(s.due as u64);
+        print(b", answered ");
+        print_number(given as u64);
+        print(b"\n");
+    }
+    counted(t, s.due, given)
+}
+
+fn replay_with(
+    doc: &[u8],
+    steps: &[u8],
+    names: &mut [usize],
+    enums: &mut [usize],
+    tally: Tally,
+) -> Tally {
+    let mut t = tally;
+    let mut state = start();
+    let mut i: usize = 0;
+    while i < steps.len() / 4 {
+        let at = 4 * i;
+        i += 1;
+        let s = step_of(word_at(steps, at));
+        state = advance(doc, s, names, enums, state);
+        t = note(t, s, state.given);
+    }
+    t
+}
+
+// Judges every step.
+pub(crate) fn replay_steps(doc: &[u8], steps: &[u8], tally: Tally) -> Tally {
+    let mut names = [0usize; 1024];
+    let mut enums = [0usize; 512];
+    replay_with(doc, steps, &mut names, &mut enums, document(tally))
+}
