@@ -1,14 +1,10 @@
 // The C interface. include/offer.h says what C sees of it.
-use findings::Reply;
 use reading::Fault;
 use reading::Verdict;
 ghost use mathlib.Core.Path.{_≡_};
-ghost use mathlib.Core.List.{[], _∷_};
 ghost use Rattle.reading.specs.Document.{readDocument};
 ghost use Rattle.reading.specs.Fault.{number};
 ghost use Rattle.reading.specs.Link.{verdict, numberOf, placeOf};
-ghost use Rattle.findings.specs.Reply.{replyTo, sheetOf, firstOf, secondOf};
-ghost use Rattle.findings.specs.Reply as reply;
 
 // Document 01's number of a fault.
 fn fault_number(fault: Fault) -> u32
@@ -43,34 +39,6 @@ pub extern "C" fn offer_read(doc: &[u8], place: &mut u64) -> u32
         Verdict::Refused(fault, at) => {
             *place = at as u64;
             fault_number(fault)
-        }
-    }
-}
-
-// All findings of a document, five words each, errors first: 0 where they were written, and `answer` takes both counts;
-// else the refusal's number, `answer` takes its place and 0, and no word is changed.
-#[no_mangle]
-pub extern "C" fn offer_findings(doc: &[u8], words: &mut [u32], answer: &mut [u64; 2]) -> u32
-    ensures { λ r. ⌜ r ≡ reply.numberOf (replyTo (now (words .entry)) (readDocument (now (doc .entry)))) ⌝ }
-    ensures { λ _. ⌜ now (words .exit) ≡ sheetOf (now (words .entry)) (readDocument (now (doc .entry))) ⌝ }
-    ensures { λ _. ⌜ now (answer .exit) ≡ firstOf (replyTo (now (words .entry)) (readDocument (now (doc .entry)))) ∷ secondOf (replyTo (now (words .entry)) (readDocument (now (doc .entry)))) ∷ [] ⌝ }
-{
-    let r = findings::findings(doc, words);
-    match r {
-        Reply::Counts(errors, warnings) => {
-            answer[0] = errors as u64;
-            answer[1] = warnings as u64;
-            0
-        }
-        Reply::Refused(fault, place) => {
-            answer[0] = place as u64;
-            answer[1] = 0;
-            fault_number(fault)
-        }
-        Reply::Short(count) => {
-            answer[0] = count as u64;
-            answer[1] = 0;
-            10
         }
     }
 }
