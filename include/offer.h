@@ -26,12 +26,20 @@ enum {
     OFFER_OUTSIDE_ALPHABET = 6, /* a byte outside the string's alphabet; the string's start */
     OFFER_TOO_DEEP = 7,         /* an expression or formula would start at depth 33; its start */
     OFFER_TRAILING = 8,         /* bytes follow the document; the first of them */
-    OFFER_UNKNOWN_VERSION = 9   /* ir_version over 1; its start */
+    OFFER_UNKNOWN_VERSION = 9,  /* ir_version over 1; its start */
+    OFFER_SHORT_SHEET = 10      /* of offer_findings: the findings need more words than were lent; their number */
 };
 
 /* Whether the bytes are a document: OFFER_ACCEPTED, or the refusal's number. *place is the refusal's place, an offset
  * into the bytes, and 0 where the document is accepted. */
 uint32_t offer_read(const uint8_t *doc, size_t doc_len, uint64_t *place);
+
+/* What is found in a document, five words a finding: the place of the module, the site, two places and the number of the
+ * cause, 0 where a word is unused; all errors by module, then all warnings by module.
+ * OFFER_ACCEPTED where they were written from the front of the words: answer[0] errors and answer[1] warnings, and the words
+ * past them keep their contents. Else the refusal's number, 1 to 10: answer[0] is its place, answer[1] is 0, and no word is
+ * changed. words_len is the number of words, and may be 0. */
+uint32_t offer_findings(const uint8_t *doc, size_t doc_len, uint32_t *words, size_t words_len, uint64_t answer[2]);
 
 #ifdef __cplusplus
 }

@@ -1,10 +1,15 @@
 // The C interface. include/offer.h says what C sees of it.
+use findings::Reply;
 use reading::Fault;
 use reading::Verdict;
 ghost use mathlib.Core.Path.{_≡_};
+ghost use mathlib.Core.List.{[], _∷_};
+ghost use lib.ListN.{length};
 ghost use Rattle.reading.specs.Document.{readDocument};
 ghost use Rattle.reading.specs.Fault.{number};
 ghost use Rattle.reading.specs.Link.{verdict, numberOf, placeOf};
+ghost use Rattle.findings.specs.Reply.{replyTo, sheetOf, firstOf, secondOf};
+ghost use Rattle.findings.specs.Reply as reply;
 
 // Document 01's number of a fault.
 fn fault_number(fault: Fault) -> u32
@@ -39,6 +44,40 @@ pub extern "C" fn offer_read(doc: &[u8], place: &mut u64) -> u32
         Verdict::Refused(fault, at) => {
             *place = at as u64;
             fault_number(fault)
+        }
+    }
+}
+
+// Puts two words into an answer.
+fn put_two(answer: &mut [u64], first: u64, second: u64)
+    requires { ⌜ length (now answer) ≡ 2 ⌝ }
+    ensures { λ _. ⌜ now (answer .exit) ≡ first ∷ second ∷ [] ⌝ }
+{
+    answer[0] = first;
+    answer[1] = second;
+}
+
+// All findings of a document, five words each, errors first: 0 where they were written, and `answer` takes both counts;
+// else the refusal's number, `answer` takes its place and 0, and no word is changed.
+#[no_mangle]
+pub extern "C" fn offer_findings(doc: &[u8], words: &mut [u32], answer: &mut [u64; 2]) -> u32
+    ensures { λ r. ⌜ r ≡ reply.numberOf (replyTo (now (words .entry)) (readDocument (now (doc .entry)))) ⌝ }
+    ensures { λ _. ⌜ now (words .exit) ≡ sheetOf (now (words .entry)) (readDocument (now (doc .entry))) ⌝ }
+    ensures { λ _. ⌜ now (answer .exit) ≡ firstOf (replyTo (now (words .entry)) (readDocument (now (doc .entry)))) ∷ secondOf (replyTo (now (words .entry)) (readDocument (now (doc .entry)))) ∷ [] ⌝ }
+{
+    let r = findings::findings(doc, words);
+    match r {
+        Reply::Counts(errors, warnings) => {
+            put_two(answer, errors as u64, warnings as u64);
+            0
+        }
+        Reply::Refused(fault, place) => {
+            put_two(answer, place as u64, 0);
+            fault_number(fault)
+        }
+        Reply::Short(count) => {
+            put_two(answer, count as u64, 0);
+            10
         }
     }
 }
