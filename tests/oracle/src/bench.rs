@@ -3,7 +3,8 @@
 
 use crate::causes;
 use crate::decode::{answer, decode};
-use crate::offer::Reader;
+use crate::offer::{Finder, Reader};
+use crate::original::findings;
 use crate::samples::{samples, Sample};
 use std::fs;
 use std::hint::black_box;
@@ -13,38 +14,58 @@ use std::time::Instant;
 
 const ROUNDS: usize = 301;
 
+/// The words that the program lends.
+const LENT: usize = 16_380;
+
 /// One batch of calls takes about this long.
 const BATCH_NANOSECONDS: f64 = 500_000.0;
 
-pub fn bench(read: Reader) {
+pub fn bench(read: Reader, find: Finder) {
     for sample in samples() {
         assert_eq!(answer(&decode(&sample.bytes)), (0, 0));
         assert_eq!(read(&sample.bytes), (0, 0));
-        line(read, &sample);
+        let doc = &sample.bytes[..];
+        let ours = || {
+            black_box(read(black_box(doc)));
+        };
+        let rust = || {
+            let _ = black_box(decode(black_box(doc)));
+        };
+        line(&sample, "offer_read", ours, "Rust decode", rust);
+    }
+    for sample in samples() {
+        let doc = &sample.bytes[..];
+        let ours = || {
+            black_box(find(black_box(doc), &mut [0; LENT]));
+        };
+        let rust = || {
+            let decoded = decode(black_box(doc)).ok();
+            black_box(decoded.map(|ir| findings(&ir)));
+        };
+        line(
+            &sample,
+            "offer_findings",
+            ours,
+            "Rust decode and check",
+            rust,
+        );
     }
 }
 
 /// Batches of both in turn, and the median of each.
-fn line(read: Reader, sample: &Sample) {
-    let doc = &sample.bytes[..];
-    let ours = || {
-        black_box(read(black_box(doc)));
-    };
-    let rust = || {
-        let _ = black_box(decode(black_box(doc)));
-    };
-    let (ours_calls, rust_calls) = (batch(ours), batch(rust));
+fn line(sample: &Sample, our: &str, ours: impl Fn(), its: &str, rust: impl Fn()) {
+    let (ours_calls, rust_calls) = (batch(&ours), batch(&rust));
     let mut ours_times = Vec::new();
     let mut rust_times = Vec::new();
     for _ in 0..ROUNDS {
-        ours_times.push(time(ours, ours_calls));
-        rust_times.push(time(rust, rust_calls));
+        ours_times.push(time(&ours, ours_calls));
+        rust_times.push(time(&rust, rust_calls));
     }
     let (ours, rust) = (median(ours_times), median(rust_times));
     println!(
-        "{:<6} {:>6} bytes: offer_read {ours:>9.0} ns, Rust decode {rust:>9.0} ns, Rust/ours {:.2}",
+        "{:<6} {:>6} bytes: {our} {ours:>9.0} ns, {its} {rust:>9.0} ns, Rust/ours {:.2}",
         sample.name,
-        doc.len(),
+        sample.bytes.len(),
         rust / ours
     );
 }

@@ -6,6 +6,7 @@ mod causes;
 mod compare;
 mod decode;
 mod encode;
+mod found;
 mod generate;
 mod json;
 mod offer;
@@ -37,6 +38,7 @@ const USAGE: &str = "usage:
   oracle items DIR N SEED   write DIR/vectors.bin with N other documents, and
                             print what the replay is to print
   oracle compare [N [SEED]] the library beside the decoder on N documents
+  oracle findings [N [SEED]] its findings beside the original's on N documents
   oracle sweep              the same on every small change of small documents
   oracle bench              time of the library beside the decoder
   oracle typing PROGRAM DIR time of typing beside reading, by the replay's program
@@ -60,8 +62,11 @@ fn main() -> ExitCode {
         ["compare"] => compare(200_000, 1),
         ["compare", count] => number(count).and_then(|n| compare(n, 1)),
         ["compare", count, seed] => number(count).and_then(|n| compare(n, number(seed)?)),
+        ["findings"] => found(100_000, 1),
+        ["findings", count] => number(count).and_then(|n| found(n, 1)),
+        ["findings", count, seed] => number(count).and_then(|n| found(n, number(seed)?)),
         ["sweep"] => sweep(),
-        ["bench"] => library().map(bench::bench),
+        ["bench"] => library().and_then(|read| Ok(bench::bench(read, finder()?))),
         ["typing", program, dir] => bench::typing(Path::new(program), Path::new(dir)),
         ["write", dir] => write_samples(Path::new(dir)),
         ["table"] => table(20_000, 1),
@@ -97,6 +102,14 @@ fn agreed(all: bool) -> Done {
 
 fn compare(count: usize, seed: u64) -> Done {
     agreed(compare::compare(library()?, count, seed))
+}
+
+fn finder() -> Result<offer::Finder, String> {
+    offer::FINDER.ok_or(NO_LIBRARY.to_string())
+}
+
+fn found(count: usize, seed: u64) -> Done {
+    agreed(found::compare(finder()?, count, seed))
 }
 
 fn sweep() -> Done {

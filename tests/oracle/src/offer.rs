@@ -9,9 +9,44 @@ pub const READER: Option<Reader> = Some(read);
 #[cfg(not(feature = "offer"))]
 pub const READER: Option<Reader> = None;
 
+/// A finder: 0 and both counts, else refusal number, place and 0; the words are
+/// written from the front.
+pub type Finder = fn(&[u8], &mut [u32]) -> (u32, [u64; 2]);
+
+#[cfg(feature = "offer")]
+pub const FINDER: Option<Finder> = Some(find);
+
+#[cfg(not(feature = "offer"))]
+pub const FINDER: Option<Finder> = None;
+
 #[cfg(feature = "offer")]
 extern "C" {
     fn offer_read(doc: *const u8, doc_len: usize, place: *mut u64) -> u32;
+    fn offer_findings(
+        doc: *const u8,
+        doc_len: usize,
+        words: *mut u32,
+        words_len: usize,
+        answer: *mut u64,
+    ) -> u32;
+}
+
+/// The library's findings. The answer starts as none, so that a call that
+/// leaves it alone shows.
+#[cfg(feature = "offer")]
+pub fn find(doc: &[u8], words: &mut [u32]) -> (u32, [u64; 2]) {
+    let mut answer = [u64::MAX; 2];
+    // Document and words are lent for the call, and answer is two u64 to write.
+    let number = unsafe {
+        offer_findings(
+            doc.as_ptr(),
+            doc.len(),
+            words.as_mut_ptr(),
+            words.len(),
+            answer.as_mut_ptr(),
+        )
+    };
+    (number, answer)
 }
 
 /// The library's answer. The place starts as no place, so that a call that
