@@ -1,6 +1,6 @@
 -- Properties by their table: names that stand earlier too, and formulas.
 use Prim.Native.Nat.{ℕ, zero, suc, _+_, _-_, _*_, _/_, _<_, _≤_}
-use mathlib.Core.Path.{_≡_, refl, sym, ap, subst, _∙_}
+use mathlib.Core.Path.{_≡_, refl, sym, ap, _∙_}
 use mathlib.Core.List.{List, [], _∷_, map}
 use mathlib.Core.Bool.{Bool, true, false, _||_}
 use mathlib.Core.Option.{Option, none, some}
@@ -11,7 +11,6 @@ use lib.Seq.{getD-take}
 use Rattle.reading.specs.Read.{pick}
 use Rattle.reading.specs.Limits.{maxDepth}
 use Rattle.reading.specs.Text.{Name}
-use Rattle.reading.specs.Formula.{readFormula}
 use Rattle.reading.specs.Module.{Property}
 use Rattle.reading.specs.Skip.{textAt}
 use Rattle.reading.proofs.Rules.{no}
@@ -32,9 +31,9 @@ use Rattle.findings.specs.Lists.{Placed}
 use Rattle.findings.specs.Finding.{Note, note, noted}
 use Rattle.findings.specs.Noting.{Noted, numbered}
 use Rattle.findings.specs.Errors.{standsEarlier, propertyName, repeatNotes, formulaNotes}
-use Rattle.findings.specs.Scene.{Reads}
 use Rattle.findings.specs.Promises.{Claims, earlierIn, NotesRepeats, NotesFormula, NotesFormulas}
 use Rattle.findings.proofs.NoteLaws.{note-then, note-as, caused-numbered}
+use Rattle.findings.proofs.RowLaws.{moved}
 use Rattle.findings.proofs.EachLaws.{get-some, Counting, count-more, count-done}
 
 -- what was found under a name
@@ -179,7 +178,7 @@ module _ (s table names enums : List ℕ) (owner : ℕ) {o : List ℕ} {skip n i
   formulas-more h e p =
       count-more (stated s table names enums) (statedNotes s table names enums) owner o skip n w
       (λ g. omega (arith, g .2 .room))
-      (λ g x q. p .of (x .formula) (g .1) (subst (λ (k : ℕ). Reads (readFormula maxDepth) s k (x .formula)) (sym e) (g .2 .at i x q .formula-is)) (g .3))
+      (λ g x q. p .of (x .formula) (g .1) (moved e (g .2 .at i x q .formula-is)) (g .3))
 
   pub formulas-done : many ≤ i → NotesFormulas s owner o skip n r o′ table names enums
   formulas-done h = record {

@@ -2,12 +2,12 @@
 use Prim.Native.Nat.{ℕ, zero, suc, _+_, _-_, _*_, _≤_}
 use mathlib.Core.Path.{_≡_, refl, sym, ap, subst, _∙_}
 use mathlib.Core.List.{List, [], _∷_, _++_, append-assoc, append-nil}
-use mathlib.Core.Option.{Option, some}
+use mathlib.Core.Option.{some}
 use native.Mathlib.Omega.{arith}
 use lib.ListN.{length, getD, getElem?, take, drop, length-append, length-drop}
-use lib.Seq.{sets, sets-eq, length-sets, length-take-le, getD-append-add, take-at}
+use lib.Seq.{sets-eq, length-sets, length-take-le, getD-append-add, take-at}
 use Rattle.reading.specs.Read.{Read, ok, refused}
-use Rattle.reading.specs.Limits.{maxList, maxDepth}
+use Rattle.reading.specs.Limits.{maxList}
 use Rattle.reading.specs.Item.{readCount}
 use Rattle.reading.specs.Combine.{entries, listOf}
 use Rattle.reading.specs.Module.{Property, readProperty}

@@ -40,7 +40,8 @@ use Rattle.typing.proofs.EnvLaws.{entry, after-is, fields-head}
 use Rattle.typing.proofs.FirstLaws.{variant-text}
 use Rattle.findings.specs.Lists.{Placed, placed, any, each}
 use Rattle.findings.specs.Finding.{Note, note, noted}
-use Rattle.findings.specs.Mentions.{groupName, groupVariants, variantUsed}
+use Rattle.typing.specs.First.{groupName}
+use Rattle.findings.specs.Mentions.{groupVariants, variantUsed}
 use Rattle.findings.specs.Warnings.{usesEvent, deadIn, dead}
 use Rattle.findings.specs.Noting.{Noted}
 use Rattle.findings.specs.Scene.{PairsFilled, Reads, Rows}

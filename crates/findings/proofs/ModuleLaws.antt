@@ -1,7 +1,7 @@
 -- A whole module: its tables, and its parts one after another.
-use Prim.Native.Nat.{ℕ, suc, _+_, _-_, _*_, _/_, _≤_}
+use Prim.Native.Nat.{ℕ, suc, _-_, _*_, _/_, _≤_}
 use mathlib.Core.Path.{_≡_, refl, sym, ap, subst, _∙_}
-use mathlib.Core.List.{List, [], _∷_, _++_}
+use mathlib.Core.List.{List, [], _∷_}
 use mathlib.Core.Bool.{Bool, true, false, not}
 use native.Mathlib.Omega.{arith}
 use lib.ListN.{length, getD, take}
@@ -10,20 +10,15 @@ use borrow.Author.Tests.{lt-ltb}
 use Rattle.reading.specs.Read.{Read, ok, refused}
 use Rattle.reading.specs.Limits.{maxList}
 use Rattle.reading.specs.Item.{readCount}
-use Rattle.reading.specs.Combine.{listOf, optional}
-use Rattle.reading.specs.Decl.{readConstructorGroup}
-use Rattle.reading.specs.Transition.{readOnError}
-use Rattle.reading.specs.Module.{Module, readProperty}
-use Rattle.typing.specs.Env.{forModule, Agree}
-use Rattle.typing.specs.Table.{pairsFrom, pairsOf, pairsAt, Filled, envAt}
+use Rattle.typing.specs.Env.{forModule}
+use Rattle.typing.specs.Table.{pairsOf, pairsAt, Filled}
 use Rattle.typing.specs.declared.table.Found.{Found}
 use Rattle.typing.proofs.EnvLaws.{tables-agree}
 use Rattle.typing.proofs.TableLaws.{pairs-length}
 use Rattle.findings.specs.Mentions.{states}
 use Rattle.findings.specs.Errors.{isEmpty, opening, claims, closing, errors}
 use Rattle.findings.specs.Warnings.{warnings}
-use Rattle.findings.specs.Noting.{Noted}
-use Rattle.findings.specs.Scene.{Reads, Opens}
+use Rattle.findings.specs.Scene.{Opens}
 use Rattle.findings.specs.Promises.{ClaimsSet, FirstStates, NotesOpening, NotesTransitions, NotesOnError, NotesRepeats, NotesFormulas}
 use Rattle.findings.specs.PairPromises.{Printed, pairNotes, NotesPairs}
 use Rattle.findings.specs.WarningPromises.{NotesUnreachable, NotesDead, NotesUnused, NotesImpossible}
@@ -32,11 +27,8 @@ use Rattle.findings.specs.ModulePromises.{Names, NotesFore, NotesMost, N
 use Rattle.findings.specs.declared.module.Named.{Named}
 use Rattle.findings.specs.declared.rows.Listed.{Listed}
 use Rattle.findings.proofs.NoteLaws.{note-then, note-as}
+use Rattle.findings.proofs.RowLaws.{moved}
 use Rattle.findings.proofs.ClaimTables.{pairs-few, filled-front}
-
--- what reads at a place reads at that place by another name
-pub moved : {A : Type 0} {F : List ℕ → ℕ → Read A} {s : List ℕ} {a b : ℕ} {x : A} → a ≡ b → Reads F s b x → Reads F s a x
-moved {F} {s} {x} e g = subst (λ (k : ℕ). Reads F s k x) (sym e) g
 
 -- a table of pairs has as many words as twice its half
 pairs-even : (s : List ℕ) (at : ℕ) → 2 * (length (pairsAt s at) / 2) ≡ length (pairsAt s at)

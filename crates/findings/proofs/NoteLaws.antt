@@ -1,8 +1,8 @@
 -- Notes written one list after another, and what a walk has still to note.
 use Prim.Native.Nat.{ℕ, _+_, _-_, _*_, _≤_, _<_}
-use mathlib.Core.Path.{_≡_, refl, sym, ap, _∙_, subst}
-use mathlib.Core.List.{List, [], _∷_, _++_, map, map-append, append-assoc, append-nil}
-use mathlib.Core.Bool.{Bool, true, false, cond}
+use mathlib.Core.Path.{_≡_, refl, subst}
+use mathlib.Core.List.{List, [], _∷_, _++_, map-append}
+use mathlib.Core.Bool.{Bool, true, false}
 use mathlib.Core.Option.{Option, none, some}
 use native.Mathlib.Omega.{arith}
 use lib.ListN.{length}
@@ -12,7 +12,6 @@ use borrow.Author.Tests.{eq-eqb, ne-eqb}
 use Rattle.typing.specs.Causes as causes
 use Rattle.typing.specs.Causes.{Cause, Blame, causeWord, blameWord, number}
 use Rattle.findings.specs.Finding.{Note, note, inModule, words, noted, caused, blamed}
-use Rattle.findings.specs.Sheet.{Written}
 use Rattle.findings.specs.Noting.{Noted, numbered}
 use Rattle.findings.proofs.SheetLaws.{nothing, then, written-length, written-before, written-full, written-one}
 

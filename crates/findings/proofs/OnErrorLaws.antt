@@ -1,13 +1,12 @@
 -- What is done on an error: its state, then its outputs one by one.
 use Prim.Native.Nat.{ℕ, _+_, _<_, _≤_}
-use mathlib.Core.Path.{_≡_, sym, ap, subst, _∙_}
+use mathlib.Core.Path.{_≡_, sym, ap, _∙_}
 use mathlib.Core.List.{List}
 use mathlib.Core.Bool.{Bool, true, false}
 use lib.ListN.{getD}
 use lib.Dec.{eqb}
 use Rattle.reading.specs.Limits.{maxList}
 use Rattle.reading.specs.Item.{readCount}
-use Rattle.reading.specs.Combine.{listOf}
 use Rattle.reading.specs.Transition.{OutputExpr, readOutputExpr, readOnError}
 use Rattle.reading.specs.Module.{Module}
 use Rattle.reading.specs.Skip.{textAt}
@@ -27,9 +26,9 @@ use Rattle.findings.specs.Lists.{Placed}
 use Rattle.findings.specs.Finding.{Note}
 use Rattle.findings.specs.Mentions.{states}
 use Rattle.findings.specs.Errors.{errorEmitNotes, onErrorNotes}
-use Rattle.findings.specs.Scene.{Reads}
 use Rattle.findings.specs.Promises.{Groups, NotesState, NotesOutput, NotesErrorEmits, NotesOnError}
 use Rattle.findings.proofs.NoteLaws.{note-nothing, note-then, note-as}
+use Rattle.findings.proofs.RowLaws.{moved}
 use Rattle.findings.proofs.OptionLaws.{not-given, is-given}
 use Rattle.findings.proofs.EachLaws.{Walking, walk-refused, walk-more, walk-done}
 
@@ -77,6 +76,6 @@ module _ (s : List ℕ) (owner : ℕ) {o : List ℕ} {skip n : ℕ} (at : ℕ) {
         let y : state ≡ d .next-state = i ∙ fields-head 2 s at tt (d .next-state) (d .opens) in
         let z : emits ≡ d .emits = p .is ∙ ap (afterItem s) y ∙ after-is name-laws s (p .each) (d .next-state) (x .item .next-state) (d .emits) (d .next-state-is) in
         let f = u .of (states m) (x .item .next-state) h (ap (textAt s) y ∙ name-text s (d .next-state) (x .item .next-state) (d .emits) (d .next-state-is)) in
-        let l = v .of (x .item .emits) m (subst (λ (k : ℕ). Reads (listOf maxList readOutputExpr) s k (x .item .emits)) (sym z) (record { end = x .reads .end; is = d .emits-is })) j a in
+        let l = v .of (x .item .emits) m (moved z (record { end = x .reads .end; is = d .emits-is })) j a in
         note-as owner _ (ap (onErrorNotes m) (sym (x .is))) (note-then owner f l);
   }

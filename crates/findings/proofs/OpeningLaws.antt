@@ -1,6 +1,6 @@
 -- Sites 1 to 5, each by what stands at its place, and one after another.
 use Prim.Native.Nat.{ℕ, _+_, _<_, _≤_}
-use mathlib.Core.Path.{_≡_, sym, ap, subst, _∙_}
+use mathlib.Core.Path.{_≡_, sym, ap, _∙_}
 use mathlib.Core.List.{List}
 use mathlib.Core.Bool.{Bool, true, false, not}
 use mathlib.Core.Option.{Option}
@@ -9,7 +9,6 @@ use lib.Dec.{eqb}
 use Rattle.reading.specs.Limits.{maxList, maxDepth}
 use Rattle.reading.specs.Item.{readCount}
 use Rattle.reading.specs.Text.{Name, readName, readVersion}
-use Rattle.reading.specs.Combine.{listOf, optional}
 use Rattle.reading.specs.Expr.{readExpr}
 use Rattle.reading.specs.Decl.{VarDecl, readVarDecl}
 use Rattle.reading.specs.Transition.{readTopExpr}
@@ -33,9 +32,9 @@ use Rattle.findings.specs.Finding.{Note, note, noted}
 use Rattle.findings.specs.Noting.{Noted}
 use Rattle.findings.specs.Mentions.{states}
 use Rattle.findings.specs.Errors.{initialNotes, versionNotes, initNotes, opening}
-use Rattle.findings.specs.Scene.{Reads}
 use Rattle.findings.specs.Promises.{InitAt, NoStates, NotesTyped, NotesState, NotesInitial, NotesVersion, NotesInits, NotesOpening}
 use Rattle.findings.proofs.NoteLaws.{note-nothing, note-then, note-as}
+use Rattle.findings.proofs.RowLaws.{moved}
 use Rattle.findings.proofs.OptionLaws.{not-given, is-given}
 use Rattle.findings.proofs.EachLaws.{Walking, walk-refused, walk-more, walk-done}
 
@@ -113,7 +112,7 @@ module _ (s : List ℕ) (owner : ℕ) {o o₁ o₂ o₃ o′ : List ℕ} {skip n
   opening-noted e p i q j u k v = record {
     of = λ m g h f.
         let x = note-as owner _ (ap (λ (z : Bool). noted z (note 1 0 0 0)) (e .of (states m) h)) p in
-        let y = q .of (states m) (m .initial-state) h (subst (λ (z : ℕ). Reads (optional readName) s z (m .initial-state)) (sym i) (g .initial-state-is)) in
-        let z = u .of (m .version) (subst (λ (z : ℕ). Reads (optional readVersion) s z (m .version)) (sym j) (g .version-is)) in
-        note-then owner (note-then owner (note-then owner x y) z) (v .of (m .vars) (forModule m) (subst (λ (z : ℕ). Reads (listOf maxList readVarDecl) s z (m .vars)) (sym k) (g .vars-are)) f);
+        let y = q .of (states m) (m .initial-state) h (moved i (g .initial-state-is)) in
+        let z = u .of (m .version) (moved j (g .version-is)) in
+        note-then owner (note-then owner (note-then owner x y) z) (v .of (m .vars) (forModule m) (moved k (g .vars-are)) f);
   }

@@ -2,7 +2,7 @@
 use Prim.Native.Nat.{ℕ, zero, suc, _+_, _-_, _*_, _<_, _≤_}
 use mathlib.Core.Path.{_≡_, refl, sym, ap, subst, _∙_}
 use mathlib.Core.List.{List, [], _∷_, _++_}
-use mathlib.Core.Bool.{Bool, true, false, cond}
+use mathlib.Core.Bool.{true, false}
 use native.Mathlib.Omega.{arith}
 use lib.ListN.{length, getD, length-append}
 use lib.Seq.{getD-append-add}
@@ -20,7 +20,7 @@ use Rattle.reading.proofs.Views.{document-at}
 use Rattle.findings.specs.Finding.{Finding, words}
 use Rattle.findings.specs.Findings.{allErrors, allWarnings, findings}
 use Rattle.findings.specs.Sheet.{Written}
-use Rattle.findings.specs.Walks.{WalksAll, Counted, Filled, Replies, Lines, WarningLine}
+use Rattle.findings.specs.Walks.{WalksAll, Counted, AllWritten, Replies, Lines, WarningLine}
 use Rattle.findings.specs.Reply.{tooMany, replyTo, sheetOf, lineOf, lineTo}
 use Rattle.findings.specs.declared.reply.Reply.{Reply}
 use Rattle.findings.specs.declared.reply.Reply.the-variants.{Counts, Refused, Short}
@@ -37,7 +37,7 @@ counted s t = record {
       (omega arith, omega arith);
 }
 
-pub filled : (s o o₁ o₂ : List ℕ) {p p′ q q′ : List ℕ} {a b₁ a₂ c d : ℕ} → WalksAll s o 0 0 c o₁ p 0 0 b₁ p′ → WalksAll s q 0 0 a₂ q′ o₁ 0 a d o₂ → Filled s o a o₂
+pub filled : (s o o₁ o₂ : List ℕ) {p p′ q q′ : List ℕ} {a b₁ a₂ c d : ℕ} → WalksAll s o 0 0 c o₁ p 0 0 b₁ p′ → WalksAll s q 0 0 a₂ q′ o₁ 0 a d o₂ → AllWritten s o a o₂
 unfolding findings
 filled s o o₁ o₂ {a} {c} {d} u v = record {
   of = λ x n g e.
@@ -63,7 +63,7 @@ module _ (s : List ℕ) {a b : ℕ} (t : Counted s a b) where
         (rw l (ap Short c), rw l);
   }
 
-  pub reply-written : (o o′ : List ℕ) → 5 * (a + b) ≤ length o → Filled s o a o′ → Replies s o (Counts a b) o′
+  pub reply-written : (o o′ : List ℕ) → 5 * (a + b) ≤ length o → AllWritten s o a o′ → Replies s o (Counts a b) o′
   unfolding replyTo sheetOf tooMany
   reply-written o o′ h f = record {
     of = λ x n g.

@@ -3,10 +3,9 @@ use Prim.Native.Nat.{ℕ, zero, suc, _+_, _-_, _*_, _<_, _≤_}
 use mathlib.Core.Path.{_≡_, refl, sym, ap, subst, _∙_}
 use mathlib.Core.List.{List, [], _∷_, _++_}
 use native.Mathlib.Omega.{arith}
-use native.Mathlib.Numerals.{add-one}
 use lib.ListN.{length, getD, set, length-set, List·getD-eq-default}
 use lib.Seq.{sets, length-sets}
-use Rattle.reading.specs.Read.{ok, refused}
+use Rattle.reading.specs.Read.{Reader, ok}
 use Rattle.reading.specs.Limits.{maxList}
 use Rattle.reading.specs.Item.{readCount}
 use Rattle.reading.specs.Link.{answer}
@@ -18,8 +17,12 @@ use Rattle.reading.proofs.Rules.{no}
 use Rattle.reading.proofs.Answers.{num, out}
 use Rattle.reading.proofs.ItemLaws.{count-kind}
 use Rattle.typing.specs.Table.{afterItem, afterHead, Past}
-use Rattle.findings.specs.Scene.{rowFrom, endFrom, rowAt, rowEnd, rowsFrom, rowsEnd, rowsOf, rowsAt, RowsFilled}
+use Rattle.findings.specs.Scene.{rowFrom, endFrom, rowAt, rowEnd, rowsFrom, rowsEnd, rowsOf, rowsAt, RowsFilled, Reads}
 use Rattle.findings.specs.declared.rows.Listed.{Listed}
+
+-- what reads at a place reads at that place by another name
+pub moved : {A : Type 0} {F : Reader A} {s : List ℕ} {a b : ℕ} {x : A} → a ≡ b → Reads F s b x → Reads F s a x
+moved {F} {s} {x} e g = subst (λ (k : ℕ). Reads F s k x) (sym e) g
 
 -- so many items are left, the next at k; its place goes to word w
 pub record RowLeft (s : List ℕ) (fields at : ℕ) (table : List ℕ) (j left k w : ℕ) (now : List ℕ) : Type 0 where

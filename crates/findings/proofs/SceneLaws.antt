@@ -1,15 +1,14 @@
 -- The tables of places that are filled have the places where a module's fields and its transitions' fields read.
-use Prim.Native.Nat.{ℕ, zero, suc, _+_, _-_, _*_, _<_, _≤_}
-use mathlib.Core.Path.{_≡_, refl, sym, ap, subst, _∙_}
+use Prim.Native.Nat.{ℕ, zero, suc, _+_, _*_, _≤_}
+use mathlib.Core.Path.{_≡_, refl, sym, ap, _∙_}
 use mathlib.Core.List.{List, [], _∷_, _++_, append-assoc}
-use mathlib.Core.Option.{Option, some}
+use mathlib.Core.Option.{some}
 use native.Mathlib.Omega.{arith}
 use lib.ListN.{length, getD, getElem?, set, drop, length-append}
 use lib.Seq.{sets, sets-eq, getD-append-add}
-use Rattle.reading.specs.Read.{Reader, ok}
+use Rattle.reading.specs.Read.{ok}
 use Rattle.reading.specs.Limits.{maxU32, maxU64, maxList}
-use Rattle.reading.specs.Item.{readNumber, readCount}
-use Rattle.reading.specs.Combine.{entries, listOf, optional}
+use Rattle.reading.specs.Combine.{entries, listOf}
 use Rattle.reading.specs.Transition.{Transition, readTransition}
 use Rattle.reading.specs.Module.{Module, readModule}
 use Rattle.reading.specs.Views.{TransitionAt, ModuleAt}
@@ -18,7 +17,7 @@ use Rattle.reading.proofs.HeadSound.{Bytes}
 use Rattle.reading.proofs.ExprLaws.{name-laws, name-solid, version-laws, version-solid}
 use Rattle.reading.proofs.DeclLaws.{enum-decl-laws, constructor-group-laws, var-decl-laws}
 use Rattle.reading.proofs.PatternLaws.{pattern-laws}
-use Rattle.reading.proofs.TransitionLaws.{top-expr-laws, top-expr-solid, output-expr-laws, assignment-laws, on-error-laws, on-error-solid, transition-laws}
+use Rattle.reading.proofs.TransitionLaws.{top-expr-laws, top-expr-solid, output-expr-laws, assignment-laws, on-error-laws, on-error-solid}
 use Rattle.reading.proofs.ModuleLaws.{property-laws}
 use Rattle.reading.proofs.ItemLaws.{number-laws}
 use Rattle.reading.proofs.ListLaws.{list-laws}
@@ -27,7 +26,7 @@ use Rattle.reading.proofs.Views.{transition-at, module-at}
 use Rattle.reading.proofs.ListViews.{list-at}
 use Rattle.typing.specs.Table.{afterItem, afterHead, Past}
 use Rattle.typing.proofs.EnvLaws.{entry, after-is, fields-head}
-use Rattle.findings.specs.Scene.{rowFrom, endFrom, rowAt, rowEnd, rowsFrom, rowsEnd, rowsOf, rowsAt, RowsFilled, Reads, field, RowAt, Rows, Scene, Opens}
+use Rattle.findings.specs.Scene.{rowFrom, endFrom, rowAt, rowEnd, rowsFrom, rowsEnd, rowsOf, rowsAt, RowsFilled, field, RowAt, Rows, Scene, Opens}
 use Rattle.findings.specs.declared.rows.Listed.{Listed}
 use Rattle.findings.proofs.RowLaws.{row-length, sets-append}
 

@@ -82,10 +82,10 @@ written-one {o} {o′} {k} {n} {w} {f} h l e p = record { count = refl; buffer =
 pub record Left (o : List ℕ) (k n : ℕ) (all : List Finding) (m : ℕ) (o′ : List ℕ) (rest : List Finding) : Type 0 where
   pub made : List Finding
   pub split : all ≡ made ++ rest
-  pub emitted : Written o k n made m o′
+  pub written : Written o k n made m o′
 
 pub left-all : (o : List ℕ) (k n : ℕ) (all : List Finding) → Left o k n all n o all
-left-all o k n all = record { made = []; split = refl; emitted = nothing o k n }
+left-all o k n all = record { made = []; split = refl; written = nothing o k n }
 
 pub left-more : {o o′ o″ : List ℕ} {k n m r : ℕ} {all rest rest′ : List Finding} (fs : List Finding)
     → Left o k n all m o′ rest → rest ≡ fs ++ rest′ → Written o′ k m fs r o″ → Left o k n all r o″ rest′
@@ -93,16 +93,13 @@ left-more {rest} {rest′} fs l e p =
     record {
       made = l .made ++ fs;
       split = l .split ∙ ap (λ (x : List Finding). l .made ++ x) e ∙ sym (append-assoc (l .made) fs rest′);
-      emitted = then (l .emitted) p;
+      written = then (l .written) p;
     }
 
 pub left-none : {o o′ : List ℕ} {k n m : ℕ} {all rest : List Finding} → Left o k n all m o′ rest → rest ≡ [] → Written o k n all m o′
 left-none {o} {o′} {k} {n} {m} {all} {rest} l e =
     subst (λ (x : List Finding). Written o k n x m o′)
-    (sym (l .split ∙ ap (λ (x : List Finding). l .made ++ x) e ∙ append-nil (l .made))) (l .emitted)
-
-pub left-length : {o o′ : List ℕ} {k n m : ℕ} {all rest : List Finding} → Left o k n all m o′ rest → length o′ ≡ length o
-left-length l = written-length (l .emitted)
+    (sym (l .split ∙ ap (λ (x : List Finding). l .made ++ x) e ∙ append-nil (l .made))) (l .written)
 
 words-length : (f : Finding) → length (words f) ≡ 5
 words-length f = refl

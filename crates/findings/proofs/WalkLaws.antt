@@ -1,12 +1,11 @@
 -- The walk over the modules: what is written of the modules so far, and what is still to be written, make the whole.
 use Prim.Native.Nat.{ℕ, _+_, _<_, _≤_}
-use mathlib.Core.Path.{_≡_, refl, sym, ap, subst, _∙_}
-use mathlib.Core.List.{List, [], _∷_, _++_, map}
+use mathlib.Core.Path.{_≡_, sym, ap, subst, _∙_}
+use mathlib.Core.List.{List, _∷_, map}
 use native.Mathlib.Omega.{arith}
 use lib.ListN.{length, drop, drop-of-length-le}
-use Rattle.reading.specs.Read.{ok}
 use Rattle.reading.specs.Limits.{maxModules, maxVersion}
-use Rattle.reading.specs.Item.{readNumber, readIrVersion, readCount}
+use Rattle.reading.specs.Item.{readCount}
 use Rattle.reading.specs.Combine.{listOf}
 use Rattle.reading.specs.Module.{Module, readModule}
 use Rattle.reading.specs.Views.{Rest}
@@ -15,10 +14,10 @@ use Rattle.reading.specs.declared.cursor.Cursor.{Cursor}
 use Rattle.reading.specs.declared.fault.Fault.{Fault}
 use Rattle.reading.specs.declared.item.Answer.{Answer}
 use Rattle.reading.specs.declared.item.Answer.the-variants.{Got, Refused}
-use Rattle.reading.proofs.Rules.{no, pick-false, bind-ok}
-use Rattle.reading.proofs.Gives.{Gives, gives-ok, gives-refused, gives-pick, gives-bind}
+use Rattle.reading.proofs.Rules.{no}
 use Rattle.reading.proofs.Answers.{num, out}
-use Rattle.reading.proofs.ItemLaws.{number-laws, count-kind}
+use Rattle.reading.proofs.ItemLaws.{number-laws}
+use Rattle.reading.proofs.ModuleLaws.{version-agrees}
 use Rattle.reading.proofs.Views.{ir-at}
 use Rattle.reading.proofs.ListViews.{list-at, rest-all, turn}
 use Rattle.typing.specs.Table.{afterItem, afterHead, Past}
@@ -31,7 +30,6 @@ use Rattle.findings.specs.Findings.{byModule, allErrors, allWarnings}
 use Rattle.findings.specs.Sheet.{Written}
 use Rattle.findings.specs.Noting.{Noted}
 use Rattle.findings.specs.Scene.{Reads}
-use Rattle.findings.specs.Promises.{at-place}
 use Rattle.findings.specs.Walks.{WalksModule, WalksModules, WalksAll}
 use Rattle.findings.proofs.SheetLaws.{Left, left-all, left-more, left-none}
 use Rattle.findings.proofs.EachLaws.{eachFrom, each-here}
@@ -113,15 +111,6 @@ module _ (s : List ℕ) (at : ℕ) (o : List ℕ) (skip n : ℕ) (p : List ℕ) 
           record { errors-are = to-done errors ms (omega arith) (v .errors-to); warnings-are = to-done warnings ms (omega arith) (v .warnings-to) };
     }
 
--- there are few modules
-pub modules-few : (s : List ℕ) (at : ℕ) {a : Answer} {count : ℕ} {c : Cursor} → a ≡ answer (readCount maxModules s at) → a ≡ Got count c → count ≤ 16
-modules-few s at e q = count-kind s at maxModules _ _ (num _ e q) .1
-
--- the version is a number
-version-number : (s : List ℕ) (at : ℕ) → Gives (λ x n. readNumber maxVersion s at ≡ ok x n) (readIrVersion s at)
-unfolding readIrVersion readNumber
-version-number s at = gives-bind _ _ _ λ v n e. gives-pick _ _ _ _ (λ _. gives-refused _ _ _) λ q. gives-ok (λ x m. readNumber maxVersion s at ≡ ok x m) v n (rw (e, bind-ok, q, pick-false))
-
 -- the modules stand after the version
 pub all-walked : (s : List ℕ) {o o′ p p′ : List ℕ} {skip n r leave b q version modules : ℕ} → version ≡ afterHead s 0 → Past s version modules → WalksModules s o skip n r o′ p leave b q p′ modules → WalksAll s o skip n r o′ p leave b q p′
 unfolding allErrors allWarnings
@@ -129,7 +118,7 @@ all-walked s {version} {modules} e t w = record {
   of = λ x n g.
       let v = ir-at s 0 x n g in
       let h = fields-head 2 s 0 tt (v .ir-version) (v .opens) in
-      let a = after-is (number-laws maxVersion (omega arith)) s (t .each) (v .ir-version) (x .ir-version) (v .modules) (version-number s (v .ir-version) _ _ (v .ir-version-is)) in
+      let a = after-is (number-laws maxVersion (omega arith)) s (t .each) (v .ir-version) (x .ir-version) (v .modules) (version-agrees s (v .ir-version) _ _ (v .ir-version-is)) in
       let k : modules ≡ v .modules = t .is ∙ ap (afterItem s) (e ∙ h) ∙ a in
       let u = w .of (x .modules) (record { end = n; is = ap (listOf maxModules readModule s) k ∙ v .modules-is }) in
       record { errors-are = u .errors-are; warnings-are = u .warnings-are };

@@ -10,14 +10,9 @@ use Rattle.reading.specs.Pattern.{PatternVariant}
 use Rattle.reading.specs.Transition.{OutputExpr, Assignment, OnError, Transition}
 use Rattle.reading.specs.Module.{Module}
 use Rattle.typing.specs.Names.{eqName, member, firstCalled, stateEnum}
+use Rattle.typing.specs.First.{enumName}
 use Rattle.typing.specs.Patterns.{declaredName, patternVariantName}
 use Rattle.findings.specs.Lists.{each}
-
-abbrev pub enumName : EnumDecl → Name
-enumName e = e .name
-
-abbrev pub groupName : ConstructorGroup → Name
-groupName g = g .name
 
 unfoldable pub enumVariants : Option EnumDecl → List Name
 enumVariants none = []

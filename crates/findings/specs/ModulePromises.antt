@@ -4,8 +4,7 @@ use mathlib.Core.Path.{_≡_}
 use mathlib.Core.List.{List, _++_}
 use mathlib.Core.Bool.{not}
 use lib.ListN.{length, take}
-use Rattle.reading.specs.Read.{ok}
-use Rattle.reading.specs.Module.{Module, readModule}
+use Rattle.reading.specs.Module.{Module}
 use Rattle.typing.specs.Env.{forModule, Agree}
 use Rattle.typing.specs.Table.{envAt}
 use Rattle.typing.specs.declared.table.Found.{Found}

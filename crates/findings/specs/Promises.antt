@@ -27,7 +27,8 @@ use Rattle.typing.specs.declared.cause.Typed.{Typed}
 use Rattle.typing.specs.declared.table.Found.{Found}
 use Rattle.findings.specs.Lists.{Placed, placed, each}
 use Rattle.findings.specs.Finding.{Note, note, noted, caused, blamed, typeCause}
-use Rattle.findings.specs.Mentions.{enumName, enumVariants, states}
+use Rattle.typing.specs.First.{enumName}
+use Rattle.findings.specs.Mentions.{enumVariants, states}
 use Rattle.findings.specs.Errors.{unknownState, isEmpty, initialNotes, versionNotes, initNotes, opening, guardNotes, setNotes, emitNotes, bodyNotes, own, errorEmitNotes, onErrorNotes, propertyName, repeatNotes, formulaNotes}
 use Rattle.findings.specs.Noting.{Noted, numbered}
 use Rattle.findings.specs.Scene.{Bytes, Reads, RowAt, Rows, Scene, StatesAt}

@@ -1,6 +1,6 @@
 -- What the findings call answers and leaves, and what the call for one finding answers.
 use Prim.Native.Nat.{ℕ, _*_}
-use mathlib.Core.List.{List, [], _++_}
+use mathlib.Core.List.{List, _++_}
 use mathlib.Core.Bool.{Bool, cond}
 use lib.ListN.{length, getD, drop}
 use lib.Dec.{ltb}
@@ -36,15 +36,15 @@ numberOf (Refused f p) = number f
 numberOf (Short n) = 10
 
 -- both counts; or the refusal's place, and 0
-unfoldable pub firstOf : Reply → ℕ
-firstOf (Counts e w) = e
-firstOf (Refused f p) = p
-firstOf (Short n) = n
+unfoldable pub firstWord : Reply → ℕ
+firstWord (Counts e w) = e
+firstWord (Refused f p) = p
+firstWord (Short n) = n
 
-unfoldable pub secondOf : Reply → ℕ
-secondOf (Counts e w) = w
-secondOf (Refused f p) = 0
-secondOf (Short n) = 0
+unfoldable pub secondWord : Reply → ℕ
+secondWord (Counts e w) = w
+secondWord (Refused f p) = 0
+secondWord (Short n) = 0
 
 -- the words of a finding
 unfoldable pub lineOf : Finding → Line

@@ -19,7 +19,8 @@ use Rattle.typing.specs.declared.table.Found.{Found}
 use Rattle.typing.specs.declared.table.Found.the-variants.{At, Nothing}
 use Rattle.findings.specs.Lists.{Placed, placed, any, each}
 use Rattle.findings.specs.Finding.{Note, note, noted}
-use Rattle.findings.specs.Mentions.{groupName, groupVariants}
+use Rattle.typing.specs.First.{groupName}
+use Rattle.findings.specs.Mentions.{groupVariants}
 use Rattle.findings.specs.Warnings.{deadIn, dead}
 use Rattle.findings.specs.Noting.{Noted}
 use Rattle.findings.specs.Scene.{Reads, Rows}

@@ -54,7 +54,7 @@ module _ (s o : List ℕ) (skip n r : ℕ) (o′ p : List ℕ) (leave k q : ℕ)
 pub record Counted (s : List ℕ) (a b : ℕ) : Type 0 where
   pub of : (x : Ir) (n : ℕ) → readDocument s ≡ ok x n → (a ≡ length (allErrors x)) × (b ≡ length (allWarnings x))
 
-pub record Filled (s o : List ℕ) (a : ℕ) (o′ : List ℕ) : Type 0 where
+pub record AllWritten (s o : List ℕ) (a : ℕ) (o′ : List ℕ) : Type 0 where
   pub of : (x : Ir) (n : ℕ) → readDocument s ≡ ok x n → a ≡ length (allErrors x) → o′ ≡ put o 0 0 (findings x)
 
 -- the answer to a document that reads, and the lent words afterwards

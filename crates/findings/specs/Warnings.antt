@@ -14,7 +14,8 @@ use Rattle.typing.specs.Guards.{isLiteralFalse, contradictoryEqualities}
 use Rattle.findings.specs.Lists.{Placed, placed, any, each}
 use Rattle.findings.specs.Finding.{Note, note, noted}
 use Rattle.findings.specs.Reach.{reached}
-use Rattle.findings.specs.Mentions.{groupName, groupVariants, states, allTouched, variantUsed}
+use Rattle.typing.specs.First.{groupName}
+use Rattle.findings.specs.Mentions.{groupVariants, states, allTouched, variantUsed}
 use Rattle.findings.specs.Pairs.{ambiguous, byState}
 
 abbrev pub startsAt : Transition → Name → Bool

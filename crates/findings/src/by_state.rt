@@ -68,7 +68,7 @@ fn note_row(
 }
 
 // Notes the pairs whose earlier one is of the state of transition b.
-fn note_state(
+fn note_of_state(
     doc: &[u8],
     rows: &[usize],
     prints: &[u32],
@@ -124,7 +124,7 @@ pub(crate) fn note_by_state(
         if count <= b {
             return m;
         }
-        m = note_state(doc, rows, prints, count, warn, b, out, skip, m, owner);
+        m = note_of_state(doc, rows, prints, count, warn, b, out, skip, m, owner);
         done = mark_state(doc, rows, prints, count, b, done);
         turns += 1;
     }

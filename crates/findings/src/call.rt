@@ -3,9 +3,8 @@ use crate::reply::Line;
 use crate::reply::Reply;
 use crate::whole::Totals;
 use crate::whole::walk_all;
-ghost use mathlib.Core.Path.{_≡_};
 ghost use Prim.Native.Nat.{_≤_};
-ghost use Rattle.findings.specs.Walks.{Counted, Filled, Replies, WarningLine, Lines};
+ghost use Rattle.findings.specs.Walks.{Counted, AllWritten, Replies, WarningLine, Lines};
 
 // How many errors and how many warnings there are.
 fn count_all(doc: &[u8]) -> Totals
@@ -21,7 +20,7 @@ fn count_all(doc: &[u8]) -> Totals
 // Writes all findings, so many of them errors.
 fn write_all(doc: &[u8], out: &mut [u32], errors: usize)
     requires { ⌜ errors ≤ 532733824 ⌝ }
-    ensures { λ _. ⌜ Filled (now (doc .entry)) (now (out .entry)) errors (now (out .exit)) ⌝ }
+    ensures { λ _. ⌜ AllWritten (now (doc .entry)) (now (out .entry)) errors (now (out .exit)) ⌝ }
 {
     let mut none = [0u32; 1];
     walk_all(doc, out, 0, 0, &mut none, 0, 0);

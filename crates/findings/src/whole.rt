@@ -180,7 +180,7 @@ fn states_of<'a>(doc: &'a [u8], places: &'a [usize]) -> Found
 }
 
 // The first enum called State, how many variables there are, and how many words the tables of names take.
-pub struct Known {
+pub struct Ready {
     pub found: Found,
     pub vars: u8,
     pub enums: usize,
@@ -194,7 +194,7 @@ fn name_module<'a>(
     table: &mut [usize],
     enums: &mut [usize],
     claims: &mut [usize],
-) -> Known
+) -> Ready
     requires { ⌜ 510 ≤ length (now table) ⌝ }
     requires { ⌜ 510 ≤ length (now enums) ⌝ }
     requires { ⌜ length (now claims) ≡ 1020 ⌝ }
@@ -205,7 +205,7 @@ fn name_module<'a>(
 {
     let found = states_of(doc, places);
     let named = fill_names(doc, places, table, enums, claims);
-    Known {
+    Ready {
         found,
         vars: named.vars,
         enums: named.enums,

@@ -6,7 +6,7 @@ use native.Mathlib.Omega.{arith}
 use lib.ListN.{length, set}
 use Rattle.reading.specs.Fault.{number}
 use Rattle.reading.specs.declared.fault.Fault.{Fault}
-use Rattle.findings.specs.Reply.{numberOf, firstOf, secondOf}
+use Rattle.findings.specs.Reply.{numberOf, firstWord, secondWord}
 use Rattle.findings.specs.declared.reply.Reply.{Reply}
 use Rattle.findings.specs.declared.reply.Reply.the-variants.{Counts, Refused, Short}
 
@@ -22,24 +22,24 @@ module _ (m : Reply) {r : Reply} (q : r ≡ m) where
     unfolding numberOf
     counts-number = sym (ap numberOf (sym q ∙ k))
 
-    pub counts-words : {a : List ℕ} → a ≡ e ∷ w ∷ [] → a ≡ firstOf m ∷ secondOf m ∷ []
-    unfolding firstOf secondOf
-    counts-words l = l ∙ sym (ap (λ (z : Reply). firstOf z ∷ secondOf z ∷ []) (sym q ∙ k))
+    pub counts-words : {a : List ℕ} → a ≡ e ∷ w ∷ [] → a ≡ firstWord m ∷ secondWord m ∷ []
+    unfolding firstWord secondWord
+    counts-words l = l ∙ sym (ap (λ (z : Reply). firstWord z ∷ secondWord z ∷ []) (sym q ∙ k))
 
   module _ {f : Fault} {p : ℕ} (k : r ≡ Refused f p) where
     pub refused-number : {v : ℕ} → v ≡ number f → v ≡ numberOf m
     unfolding numberOf
     refused-number e = e ∙ sym (ap numberOf (sym q ∙ k))
 
-    pub refused-words : {a : List ℕ} → a ≡ p ∷ 0 ∷ [] → a ≡ firstOf m ∷ secondOf m ∷ []
-    unfolding firstOf secondOf
-    refused-words l = l ∙ sym (ap (λ (z : Reply). firstOf z ∷ secondOf z ∷ []) (sym q ∙ k))
+    pub refused-words : {a : List ℕ} → a ≡ p ∷ 0 ∷ [] → a ≡ firstWord m ∷ secondWord m ∷ []
+    unfolding firstWord secondWord
+    refused-words l = l ∙ sym (ap (λ (z : Reply). firstWord z ∷ secondWord z ∷ []) (sym q ∙ k))
 
   module _ {n : ℕ} (k : r ≡ Short n) where
     pub short-number : 10 ≡ numberOf m
     unfolding numberOf
     short-number = sym (ap numberOf (sym q ∙ k))
 
-    pub short-words : {a : List ℕ} → a ≡ n ∷ 0 ∷ [] → a ≡ firstOf m ∷ secondOf m ∷ []
-    unfolding firstOf secondOf
-    short-words l = l ∙ sym (ap (λ (z : Reply). firstOf z ∷ secondOf z ∷ []) (sym q ∙ k))
+    pub short-words : {a : List ℕ} → a ≡ n ∷ 0 ∷ [] → a ≡ firstWord m ∷ secondWord m ∷ []
+    unfolding firstWord secondWord
+    short-words l = l ∙ sym (ap (λ (z : Reply). firstWord z ∷ secondWord z ∷ []) (sym q ∙ k))

@@ -8,7 +8,7 @@ ghost use lib.ListN.{length};
 ghost use Rattle.reading.specs.Document.{readDocument};
 ghost use Rattle.reading.specs.Fault.{number};
 ghost use Rattle.reading.specs.Link.{verdict, numberOf, placeOf};
-ghost use Rattle.findings.specs.Reply.{replyTo, sheetOf, firstOf, secondOf};
+ghost use Rattle.findings.specs.Reply.{replyTo, sheetOf, firstWord, secondWord};
 ghost use Rattle.findings.specs.Reply as reply;
 
 // Document 01's number of a fault.
@@ -63,7 +63,7 @@ fn put_two(answer: &mut [u64], first: u64, second: u64)
 pub extern "C" fn offer_findings(doc: &[u8], words: &mut [u32], answer: &mut [u64; 2]) -> u32
     ensures { λ r. ⌜ r ≡ reply.numberOf (replyTo (now (words .entry)) (readDocument (now (doc .entry)))) ⌝ }
     ensures { λ _. ⌜ now (words .exit) ≡ sheetOf (now (words .entry)) (readDocument (now (doc .entry))) ⌝ }
-    ensures { λ _. ⌜ now (answer .exit) ≡ firstOf (replyTo (now (words .entry)) (readDocument (now (doc .entry)))) ∷ secondOf (replyTo (now (words .entry)) (readDocument (now (doc .entry)))) ∷ [] ⌝ }
+    ensures { λ _. ⌜ now (answer .exit) ≡ firstWord (replyTo (now (words .entry)) (readDocument (now (doc .entry)))) ∷ secondWord (replyTo (now (words .entry)) (readDocument (now (doc .entry)))) ∷ [] ⌝ }
 {
     let r = findings::findings(doc, words);
     match r {

@@ -60,7 +60,7 @@ module-laws =
     (λ _. refl) (λ _. refl) (omega arith))
 
 -- whatever F accepts, G accepts alike
-abbrev Agree : {A : Type 0} → Reader A → Reader A → Type 0
+abbrev pub Agree : {A : Type 0} → Reader A → Reader A → Type 0
 Agree F G = (s : List ℕ) (at : ℕ) → Gives (λ x n. G s at ≡ ok x n) (F s at)
 
 then-agrees : {A B : Type 0} {F G : Reader A} (H : Reader B) → Agree F G → Agree (F then H) (G then H)
@@ -73,7 +73,7 @@ unfolding recordOf
 record-agrees k {F} {G} make h s at =
     gives-bind _ _ _ λ u n e. gives-map (λ x m. recordOf k G make s at ≡ ok x m) make _ λ a m q. rw (e, bind-ok, h s n a m q, map-ok)
 
-version-agrees : Agree readIrVersion (readNumber maxVersion)
+pub version-agrees : Agree readIrVersion (readNumber maxVersion)
 unfolding readIrVersion readNumber
 version-agrees s at =
     gives-bind _ _ _ λ v n e. gives-pick _ _ _ _ (λ _. gives-refused _ _ _) λ q. gives-ok (λ x m. readNumber maxVersion s at ≡ ok x m) v n (rw (e, bind-ok, q, pick-false))

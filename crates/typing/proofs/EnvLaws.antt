@@ -31,6 +31,7 @@ use Rattle.typing.specs.Causes.{firstOf}
 use Rattle.typing.specs.Names.{eqName, member, called, lastCalled}
 use Rattle.typing.specs.Env.{Env, Binding, bindingType, varType, given, enumHas, forModule, withBindings, Agree}
 use Rattle.typing.specs.Table.{placeAfter, afterItem, afterHead, pairsFrom, pairsOf, pairsAt, findFirst, findIn, widthType, caseType, exprTypeAt, memberFrom, memberOf, memberAt, typeFound, variantFound, envAt}
+use Rattle.typing.specs.First.{enumName}
 use Rattle.typing.specs.Blames.{Bound, none-bound, more-bound}
 use Rattle.typing.proofs.TableLaws.{pairs-length}
 
@@ -162,9 +163,6 @@ var-first (some a) b = refl
 
 abbrev varName : VarDecl → Name
 varName v = v .name
-
-abbrev enumName : EnumDecl → Name
-enumName e = e .name
 
 module _ (s : List ℕ) (B : Bytes s) where
   var-entry : (k : ℕ) (x : VarDecl) (n : ℕ) → readVarDecl s k ≡ ok x n → (textAt s (afterHead s k) ≡ varName x) × (afterItem s k ≡ n) × (typeFound s (some (afterItem s (afterHead s k))) ≡ varType (some x))

@@ -1,5 +1,5 @@
 -- What is still to come, put from the next word on, makes the whole row.
-use Prim.Native.Nat.{_+_, _-_, _≤_}
+use Prim.Native.Nat.{_+_, _-_}
 use native.Mathlib.Omega.{arith}
 use borrow.Author.Needs.{needs}
 use Rattle.findings.proofs.RowLaws.{RowLeft, row-start, row-more, row-ends, row-filled}

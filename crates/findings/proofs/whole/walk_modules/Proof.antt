@@ -4,7 +4,8 @@ use mathlib.Core.Path.{_≡_, refl}
 use native.Mathlib.Omega.{arith}
 use borrow.Author.Needs.{needs}
 use lib.ListN.{length}
-use Rattle.findings.proofs.WalkLaws.{Going, go-refused, go-start, go-more, go-done, modules-few}
+use Rattle.findings.proofs.WalkLaws.{Going, go-refused, go-start, go-more, go-done}
+use Rattle.findings.proofs.EachLaws.{walk-few}
 use Rattle.findings.proofs.whole.walk_modules.Statement.{statement}
 use Rattle.findings.proofs.whole.walk_modules.Tie as tie
 
@@ -19,7 +20,7 @@ abbrev μ-loop : tie.MeasureT-loop
 μ-loop doc at places₀ rows₀ prints₀ table₀ enums₀ claims₀ out₀ skip n aside₀ leave k count here₀ errors₀ warnings₀ i₀ places rows prints table enums claims out aside here errors warnings i = count - i
 
 loop-holds : tie.Need-loop-holds Inv-loop μ-loop
-loop-holds c = (search needs, search needs, search needs, search needs, search needs, search needs, refl, refl, refl, refl, refl, refl, refl, refl, search needs, search needs, search modules-few, omega arith, omega arith, omega arith, search go-start)
+loop-holds c = (search needs, search needs, search needs, search needs, search needs, search needs, refl, refl, refl, refl, refl, refl, refl, refl, search needs, search needs, search walk-few, omega arith, omega arith, omega arith, search go-start)
 
 walk-module-requires : tie.Need-walk-module-requires Inv-loop μ-loop
 walk-module-requires c κs = (omega arith, (omega arith, (omega arith, (omega arith, (omega arith, (omega arith, (omega arith, omega arith)))))))

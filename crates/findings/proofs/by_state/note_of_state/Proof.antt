@@ -6,8 +6,8 @@ use native.Mathlib.Omega.{arith}
 use lib.ListN.{length}
 use borrow.Author.Needs.{needs}
 use Rattle.findings.proofs.StateTurns.{StateLeft, state-start, state-more, state-skip, state-done}
-use Rattle.findings.proofs.by_state.note_state.Statement.{statement}
-use Rattle.findings.proofs.by_state.note_state.Tie as tie
+use Rattle.findings.proofs.by_state.note_of_state.Statement.{statement}
+use Rattle.findings.proofs.by_state.note_of_state.Tie as tie
 
 abbrev Inv-loop : tie.InvT-loop
 Inv-loop doc rows prints count warn b out₀ skip n owner at key m₀ i₀ out m i = StateLeft doc owner out₀ skip n rows prints count warn b i m out × (i ≤ count) × (m ≤ n + 510 * i) × (length out ≡ length out₀)
@@ -15,8 +15,8 @@ Inv-loop doc rows prints count warn b out₀ skip n owner at key m₀ i₀ out m
 abbrev μ-loop : tie.MeasureT-loop
 μ-loop doc rows prints count warn b out₀ skip n owner at key m₀ i₀ out m i = count - i
 
-pub note-state-spec : {M : Type 1} → statement M
-note-state-spec =
+pub note-of-state-spec : {M : Type 1} → statement M
+note-of-state-spec =
     tie.close
     (tie.spec
     Inv-loop
