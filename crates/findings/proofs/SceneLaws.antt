@@ -56,6 +56,7 @@ module _ (s : List ℕ) (B : Bytes s) where
   row-at at t n rest r =
       let v = r .view in
       rw (r .row) (record {
+        id-is = v .id-is;
         state-is = v .state-is;
         pattern-is = v .pattern-is;
         guard-is = v .guard-is;
@@ -68,6 +69,7 @@ module _ (s : List ℕ) (B : Bytes s) where
   -- the rows after a row
   row-after : (row r : List ℕ) → length row ≡ 8 → (i : ℕ) (t : Transition) → RowAt s r i t → RowAt s (row ++ r) (suc i) t
   row-after row r l i t h = record {
+    id-is = rw (shift 0, shift 1) (h .id-is);
     state-is = rw (shift 1, shift 2) (h .state-is);
     pattern-is = rw (shift 2, shift 3) (h .pattern-is);
     guard-is = rw (shift 3, shift 4) (h .guard-is);
@@ -156,6 +158,7 @@ module _ (s : List ℕ) (B : Bytes s) where
   scene-is at m n t p a more x e f g =
       let v = x .view in
       rw (x .row, e, f, g) (record {
+        name-is = record { end = _; is = v .name-is };
         version-is = record { end = _; is = v .version-is };
         on-error-is = record { end = _; is = v .on-error-is };
         enums-are = record { end = _; is = v .enums-is };

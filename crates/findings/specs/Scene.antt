@@ -6,7 +6,7 @@ use mathlib.Core.Option.{some}
 use lib.ListN.{length, getD, getElem?}
 use lib.Seq.{sets}
 use Rattle.reading.specs.Read.{Read, Reader, ok, refused}
-use Rattle.reading.specs.Limits.{maxU32, maxList}
+use Rattle.reading.specs.Limits.{maxU32, maxU64, maxList}
 use Rattle.reading.specs.Item.{readNumber, readCount}
 use Rattle.reading.specs.Text.{Name, readName, readVersion}
 use Rattle.reading.specs.Combine.{listOf, optional}
@@ -78,6 +78,7 @@ field rows i f = getD rows (8 * i + f) 0
 
 -- row i has the places of a transition's fields
 pub record RowAt (s rows : List ℕ) (i : ℕ) (t : Transition) : Type 0 where
+  pub id-is : readNumber maxU64 s (field rows i 0) ≡ ok (t .id) (field rows i 1)
   pub state-is : readName s (field rows i 1) ≡ ok (t .state) (field rows i 2)
   pub pattern-is : readPattern s (field rows i 2) ≡ ok (t .pattern) (field rows i 3)
   pub guard-is : optional readTopExpr s (field rows i 3) ≡ ok (t .guard) (field rows i 4)
@@ -92,6 +93,7 @@ pub record Rows (s rows : List ℕ) (ts : List Transition) : Type 0 where
 
 -- the places of a module's fields, in the order of ir.rs
 pub record Scene (s places : List ℕ) (m : Module) : Type 0 where
+  pub name-is : Reads readName s (getD places 0 0) (m .name)
   pub version-is : Reads (optional readVersion) s (getD places 1 0) (m .version)
   pub on-error-is : Reads (optional readOnError) s (getD places 2 0) (m .on-error)
   pub enums-are : Reads (listOf maxList readEnumDecl) s (getD places 3 0) (m .enums)

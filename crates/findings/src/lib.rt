@@ -34,10 +34,16 @@ mod walk;
 mod warnings;
 mod whole;
 
+pub use module::open_module;
 use reading::Verdict;
 use reading::read_document;
 pub use reply::Line;
 pub use reply::Reply;
+pub use rows::Listed;
+pub use rows::field;
+pub use rows::word;
+pub use whole::Ready;
+pub use whole::name_module;
 ghost use mathlib.Core.Path.{_≡_};
 ghost use Rattle.reading.specs.Document.{readDocument};
 ghost use Rattle.findings.specs.Reply.{replyTo, sheetOf, lineTo};

@@ -18,7 +18,7 @@ ghost use Rattle.findings.specs.Promises.{ClaimsSet};
 ghost use Rattle.findings.specs.ModulePromises.{Names, NotesClosing};
 
 // Fills the tables of the module at a place: the places of its fields, and of its transitions' fields.
-pub(crate) fn open_module(doc: &[u8], at: usize, places: &mut [usize], rows: &mut [usize]) -> Listed
+pub fn open_module(doc: &[u8], at: usize, places: &mut [usize], rows: &mut [usize]) -> Listed
     requires { ⌜ 11 ≤ length (now places) ⌝ }
     requires { ⌜ 2040 ≤ length (now rows) ⌝ }
     ensures { λ r. ⌜ Opens (now (doc .entry)) at r (now (places .exit)) (now (rows .exit)) ⌝ }

@@ -12,7 +12,7 @@ ghost use lib.Seq.{sets};
 ghost use Rattle.findings.specs.Scene.{rowAt, rowEnd, field, PairsFilled, RowsFilled};
 
 // A word of a table; 0 past its end.
-pub(crate) fn word(table: &[usize], j: usize) -> usize
+pub fn word(table: &[usize], j: usize) -> usize
     ensures { λ r. ⌜ r ≡ getD (now (table .entry)) j 0 ⌝ }
 {
     if j < table.len() {
@@ -22,7 +22,7 @@ pub(crate) fn word(table: &[usize], j: usize) -> usize
 }
 
 // The place of a field of transition i.
-pub(crate) fn field(rows: &[usize], i: u8, f: u8) -> usize
+pub fn field(rows: &[usize], i: u8, f: u8) -> usize
     ensures { λ r. ⌜ r ≡ field (now (rows .entry)) i f ⌝ }
 {
     let at = 8 * (i as usize) + f as usize;

@@ -188,7 +188,7 @@ pub struct Ready {
 }
 
 // Fills the tables of names of a module whose fields' places are known.
-fn name_module<'a>(
+pub fn name_module<'a>(
     doc: &'a [u8],
     places: &'a [usize],
     table: &mut [usize],

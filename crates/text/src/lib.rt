@@ -1,0 +1,8 @@
+// Text: the message of each finding, as validator.rs words it.
+//
+// `specs/` says what is right, over the document's content; `proofs/` says why the code gives it.
+mod out;
+mod said;
+
+pub use said::Arg;
+pub use said::Said;

@@ -1,0 +1,25 @@
+// Bytes put into lent ones, from a place on; those that don't fit are left out.
+ghost use Prim.Native.Nat.{_+_, _≤_};
+ghost use mathlib.Core.Path.{_≡_};
+ghost use mathlib.Core.List.{[], _∷_};
+ghost use lib.ListN.{length, set};
+ghost use Rattle.text.specs.Put.{Put};
+
+// Puts one byte at place k, where out has such a place.
+fn store(out: &mut [u8], k: usize, b: u8)
+    ensures { λ _. ⌜ now (out .exit) ≡ set (now (out .entry)) k b ⌝ }
+{
+    if k < out.len() {
+        out[k] = b;
+    }
+}
+
+// Puts one byte; the place after it.
+pub(crate) fn put_byte(out: &mut [u8], at: usize, b: u8) -> usize
+    requires { ⌜ at ≤ 0xffff_ffff ⌝ }
+    ensures { λ r. ⌜ Put (now (out .entry)) at (b ∷ []) r (now (out .exit)) ⌝ }
+    ensures { λ r. ⌜ r ≤ at + 1 ⌝ }
+{
+    store(out, at, b);
+    at + 1
+}
