@@ -5,3 +5,4 @@ pub mod Put
 pub mod CauseText
 pub mod Message
 pub mod Said
+pub mod Says

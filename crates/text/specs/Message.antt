@@ -168,47 +168,115 @@ module _ (m : Module) where
   abbrev pub ofClash : Transition → Clash → Option Saying
   ofClash t c = some (five (m .name) (decimal (t .id)) (c .name) (decimal (c .earlier)) (decimal (c .later)) none)
 
--- what is said in a module, by site, from 0; i and j are the first and the second word
-module _ (m : Module) (i j : ℕ) where
-  abbrev inTransition : (Transition → Option Saying) → Option Saying
-  inTransition f = ofEntry (m .transitions) i f
+-- what is said in a module of its initial state, its version, and what it does on an error
+abbrev pub initialSaid : Module → Option Saying
+initialSaid m = ofGiven (ofName m) (m .initial-state)
 
-  abbrev inGuard : (Transition → Expr → Option Saying) → Option Saying
-  inGuard f = inTransition λ t. ofGiven (f t) (t .guard)
+abbrev pub versionSaid : Module → Option Saying
+versionSaid m = ofGiven (ofName m) (m .version)
 
-  abbrev inPair : (Transition → Transition → Option Saying) → Option Saying
-  inPair f = inTransition λ t. ofEntry (m .transitions) j (f t)
+abbrev pub errorNextSaid : Module → Option Saying
+errorNextSaid m = ofGiven (ofErrorNext m) (m .on-error)
 
-  abbrev pub sayings : List (Option Saying)
-  sayings =
-      none
-      ∷ ofModule m
-      ∷ ofGiven (ofName m) (m .initial-state)
-      ∷ ofModule m
-      ∷ ofGiven (ofName m) (m .version)
-      ∷ ofEntry (m .vars) i (ofInit m)
-      ∷ inTransition (ofState m i)
-      ∷ inTransition (ofNext m i)
-      ∷ inTransition (ofPattern m i)
-      ∷ inGuard (ofGuard m i)
-      ∷ inGuard (ofGuardType m i)
-      ∷ inTransition (λ t. ofEntry (t .assignments) j (ofSet m i t))
-      ∷ inTransition (λ t. ofEntry (t .assignments) j (ofValue m i t))
-      ∷ inTransition (λ t. ofEntry (t .emits) j (ofEmit m i t))
-      ∷ inPair (λ t u. ofGiven (ofPriority m t u) (t .priority))
-      ∷ inPair (ofTwo m)
-      ∷ ofGiven (ofErrorNext m) (m .on-error)
-      ∷ ofGiven (λ e. ofEntry (e .emits) i (ofErrorEmit m)) (m .on-error)
-      ∷ ofEntry (claims m) i (ofClaim m)
-      ∷ ofEntry (claims m) i (ofFormula m)
-      ∷ ofEntry (claims m) i (ofClaim m)
-      ∷ ofEntry (states m) i (ofName m)
-      ∷ ofEntry (m .events) i (λ g. ofEntry (groupVariants (some g)) j (ofName m))
-      ∷ ofEntry (m .vars) i (ofVar m)
-      ∷ inPair (ofTwo m)
-      ∷ inTransition (ofId m)
-      ∷ inGuard (λ t e. ofGiven (ofClash m t) (contradictoryEqualities e))
-      ∷ []
+-- of entry i of a list
+module _ (i : ℕ) where
+  abbrev pub initSaid : Module → Option Saying
+  initSaid m = ofEntry (m .vars) i (ofInit m)
+
+  abbrev pub varSaid : Module → Option Saying
+  varSaid m = ofEntry (m .vars) i (ofVar m)
+
+  abbrev pub errorEmitSaid : Module → Option Saying
+  errorEmitSaid m = ofGiven (λ e. ofEntry (e .emits) i (ofErrorEmit m)) (m .on-error)
+
+  abbrev pub claimSaid : Module → Option Saying
+  claimSaid m = ofEntry (claims m) i (ofClaim m)
+
+  abbrev pub formulaSaid : Module → Option Saying
+  formulaSaid m = ofEntry (claims m) i (ofFormula m)
+
+  abbrev pub variantSaid : Module → Option Saying
+  variantSaid m = ofEntry (states m) i (ofName m)
+
+  -- of transition i
+  abbrev inTransition : (Module → Transition → Option Saying) → Module → Option Saying
+  inTransition f m = ofEntry (m .transitions) i (f m)
+
+  abbrev inGuard : (Module → Transition → Expr → Option Saying) → Module → Option Saying
+  inGuard f = inTransition λ m t. ofGiven (f m t) (t .guard)
+
+  abbrev pub stateSaid : Module → Option Saying
+  stateSaid = inTransition λ m. ofState m i
+
+  abbrev pub nextSaid : Module → Option Saying
+  nextSaid = inTransition λ m. ofNext m i
+
+  abbrev pub patternSaid : Module → Option Saying
+  patternSaid = inTransition λ m. ofPattern m i
+
+  abbrev pub guardSaid : Module → Option Saying
+  guardSaid = inGuard λ m. ofGuard m i
+
+  abbrev pub guardTypeSaid : Module → Option Saying
+  guardTypeSaid = inGuard λ m. ofGuardType m i
+
+  abbrev pub idSaid : Module → Option Saying
+  idSaid = inTransition ofId
+
+  abbrev pub clashSaid : Module → Option Saying
+  clashSaid = inGuard λ m t e. ofGiven (ofClash m t) (contradictoryEqualities e)
+
+  -- of entry j there, or of transition j too
+  module _ (j : ℕ) where
+    abbrev pub setSaid : Module → Option Saying
+    setSaid = inTransition λ m t. ofEntry (t .assignments) j (ofSet m i t)
+
+    abbrev pub valueSaid : Module → Option Saying
+    valueSaid = inTransition λ m t. ofEntry (t .assignments) j (ofValue m i t)
+
+    abbrev pub emitSaid : Module → Option Saying
+    emitSaid = inTransition λ m t. ofEntry (t .emits) j (ofEmit m i t)
+
+    abbrev pub prioritySaid : Module → Option Saying
+    prioritySaid = inTransition λ m t. ofEntry (m .transitions) j λ u. ofGiven (ofPriority m t u) (t .priority)
+
+    abbrev pub pairSaid : Module → Option Saying
+    pairSaid = inTransition λ m t. ofEntry (m .transitions) j (ofTwo m t)
+
+    abbrev pub eventSaid : Module → Option Saying
+    eventSaid m = ofEntry (m .events) i λ g. ofEntry (groupVariants (some g)) j (ofName m)
+
+-- what is said in a module by site, from 0, which is none; i and j are the first and the second word
+abbrev pub sayings : Module → ℕ → ℕ → List (Option Saying)
+sayings m i j =
+    none
+    ∷ ofModule m
+    ∷ initialSaid m
+    ∷ ofModule m
+    ∷ versionSaid m
+    ∷ initSaid i m
+    ∷ stateSaid i m
+    ∷ nextSaid i m
+    ∷ patternSaid i m
+    ∷ guardSaid i m
+    ∷ guardTypeSaid i m
+    ∷ setSaid i j m
+    ∷ valueSaid i j m
+    ∷ emitSaid i j m
+    ∷ prioritySaid i j m
+    ∷ pairSaid i j m
+    ∷ errorNextSaid m
+    ∷ errorEmitSaid i m
+    ∷ claimSaid i m
+    ∷ formulaSaid i m
+    ∷ claimSaid i m
+    ∷ variantSaid i m
+    ∷ eventSaid i j m
+    ∷ varSaid i m
+    ∷ pairSaid i j m
+    ∷ idSaid i m
+    ∷ clashSaid i m
+    ∷ []
 
 unfoldable pub saying : Module → ℕ → ℕ → ℕ → Option Saying
 saying m site i j = getD (sayings m i j) site none

@@ -1,8 +1,14 @@
 // Text: the message of each finding, as validator.rs words it.
 //
 // `specs/` says what is right, over the document's content; `proofs/` says why the code gives it.
+mod aft;
+mod blame;
+mod entry;
+mod fore;
 mod out;
+mod pair;
 mod said;
+mod transition;
 
 pub use said::Arg;
 pub use said::Said;
