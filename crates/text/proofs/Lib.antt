@@ -1,0 +1,2 @@
+-- Laws that belong to no one function, from the lowest to the highest.
+pub mod BlameLaws
