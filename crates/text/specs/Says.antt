@@ -64,12 +64,15 @@ pub record Untyped (s : List ℕ) (t : Typed) (r : Blame) : Type 0 where
   pub of : (a : Answer) (n : ℕ) → typedOf s t ≡ outcome n a → blameOf s r ≡ untyped a
 
 -- what is known of a module's tables: the places of its fields, and with them the names that are declared; its properties and
--- assumptions; its State variants
+-- assumptions; both; its State variants
 abbrev pub WithNames : List ℕ → List ℕ → List ℕ → List ℕ → Module → Type 0
 WithNames s places names enums m = Scene s places m × Agree (envAt s names enums) (forModule m)
 
 abbrev pub WithClaims : List ℕ → List ℕ → List ℕ → Module → Type 0
 WithClaims s places properties m = Scene s places m × Claims s properties (claims m)
+
+abbrev pub WithFormulas : List ℕ → List ℕ → List ℕ → List ℕ → List ℕ → Module → Type 0
+WithFormulas s places properties names enums m = WithNames s places names enums m × WithClaims s places properties m
 
 abbrev pub WithStates : List ℕ → List ℕ → Found → Module → Type 0
 WithStates s places found m = Scene s places m × StatesAt s found (states m)

@@ -15,7 +15,7 @@ use typing::type_formula;
 use typing::validate_output_expr;
 ghost use Rattle.findings.specs.Scene.{Scene};
 ghost use Rattle.text.specs.Message.{errorNextSaid, errorEmitSaid, claimSaid, formulaSaid, variantSaid, eventSaid};
-ghost use Rattle.text.specs.Says.{WithNames, WithClaims, WithStates, VariantsOf, Says};
+ghost use Rattle.text.specs.Says.{WithNames, WithClaims, WithFormulas, WithStates, VariantsOf, Says};
 
 // Site 16: of where an error leads.
 pub(crate) fn say_error_next<'a>(doc: &'a [u8], places: &'a [usize]) -> Said
@@ -80,7 +80,7 @@ pub(crate) fn say_formula<'a>(
     enums: &'a [usize],
     i: usize,
 ) -> Said
-    ensures { λ r. ⌜ Says (λ m. WithNames (now (doc .entry)) (now (places .entry)) (now (names .entry)) (now (enums .entry)) m × WithClaims (now (doc .entry)) (now (places .entry)) (now (claims .entry)) m) (now (doc .entry)) (formulaSaid i) r ⌝ }
+    ensures { λ r. ⌜ Says (WithFormulas (now (doc .entry)) (now (places .entry)) (now (claims .entry)) (now (names .entry)) (now (enums .entry))) (now (doc .entry)) (formulaSaid i) r ⌝ }
 {
     if claims.len() / 2 <= i {
         return Said::Nothing;
