@@ -1,0 +1,4 @@
+-- Laws that belong to no one function, from the lowest to the highest.
+pub mod LineLaws
+pub mod PairLaws
+pub mod TransitionLaws
