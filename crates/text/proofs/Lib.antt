@@ -1,4 +1,5 @@
 -- Laws that belong to no one function, from the lowest to the highest.
+pub mod BlameLaws
 pub mod LineLaws
 pub mod PairLaws
 pub mod TransitionLaws
