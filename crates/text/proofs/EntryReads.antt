@@ -13,7 +13,6 @@ use Rattle.reading.specs.Combine.{entries, listOf}
 use Rattle.reading.proofs.Rules.{no}
 use Rattle.reading.proofs.Formats.{Laws}
 use Rattle.reading.proofs.ListViews.{list-at}
-use Rattle.typing.specs.Table.{afterItem}
 use Rattle.typing.specs.declared.table.Found.{Found}
 use Rattle.typing.specs.declared.table.Found.the-variants.{At, Nothing}
 use Rattle.typing.proofs.EnvLaws.{entry, after-is}

@@ -4,3 +4,6 @@ pub mod LineLaws
 pub mod EntryReads
 pub mod PairLaws
 pub mod TransitionLaws
+pub mod GuardLaws
+pub mod SetLaws
+pub mod JudgedLaws

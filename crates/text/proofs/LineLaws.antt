@@ -1,6 +1,6 @@
 -- What a line says, argument by argument, for whatever reads where its names and numbers stand.
 use Prim.Native.Nat.{ℕ, _≤_}
-use mathlib.Core.Path.{_≡_, refl, ap, _∙_}
+use mathlib.Core.Path.{_≡_, ap, _∙_}
 use mathlib.Core.List.{List}
 use mathlib.Core.Bool.{Bool, true, false}
 use mathlib.Core.Option.{Option, none, some}
@@ -16,7 +16,6 @@ use Rattle.reading.specs.Skip.{textAt}
 use Rattle.reading.specs.Link.{answer}
 use Rattle.reading.specs.Module.{Module}
 use Rattle.reading.specs.Transition.{Transition, readTopExpr}
-use Rattle.reading.specs.Combine.{optional}
 use Rattle.reading.specs.declared.cursor.Cursor.{Cursor}
 use Rattle.reading.specs.declared.fault.Fault.{Fault}
 use Rattle.reading.specs.declared.item.Answer.{Answer}

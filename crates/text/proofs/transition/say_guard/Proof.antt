@@ -1,6 +1,6 @@
 -- By whether it is absent, then by why it has no type.
 use borrow.Author.Needs.{needs}
-use Rattle.text.proofs.TransitionLaws.{guard-absent, guard-said}
+use Rattle.text.proofs.GuardLaws.{guard-absent, guard-said}
 use Rattle.text.proofs.transition.say_guard.Statement.{statement}
 use Rattle.text.proofs.transition.say_guard.Tie as tie
 

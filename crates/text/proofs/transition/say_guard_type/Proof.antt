@@ -1,6 +1,6 @@
 -- By whether it is absent, then by its type.
 use borrow.Author.Needs.{needs}
-use Rattle.text.proofs.TransitionLaws.{guard-type-absent, guard-type-fails, guard-type-said}
+use Rattle.text.proofs.GuardLaws.{guard-type-absent, guard-type-fails, guard-type-said}
 use Rattle.text.proofs.transition.say_guard_type.Statement.{statement}
 use Rattle.text.proofs.transition.say_guard_type.Tie as tie
 
