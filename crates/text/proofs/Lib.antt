@@ -4,3 +4,10 @@ pub mod BlameLaws
 pub mod NamedLaws
 pub mod ForeLaws
 pub mod AftLaws
+pub mod LineLaws
+pub mod EntryReads
+pub mod PairLaws
+pub mod TransitionLaws
+pub mod GuardLaws
+pub mod SetLaws
+pub mod JudgedLaws
