@@ -1,6 +1,7 @@
 // Text: the message of each finding, as validator.rs words it.
 //
 // `specs/` says what is right, over the document's content; `proofs/` says why the code gives it.
+mod decimal;
 mod out;
 mod said;
 
