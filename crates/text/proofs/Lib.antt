@@ -11,3 +11,8 @@ pub mod TransitionLaws
 pub mod GuardLaws
 pub mod SetLaws
 pub mod JudgedLaws
+pub mod PutLaws
+pub mod DecimalLaws
+pub mod ShownLaws
+pub mod PathLaws
+pub mod FormLaws

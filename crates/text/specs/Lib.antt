@@ -1,7 +1,9 @@
 -- What is said of a finding, in the words of validator.rs, from the lowest to the highest.
 pub mod Form
 pub mod Shown
+pub mod Decimal
 pub mod Put
+pub mod Path
 pub mod CauseText
 pub mod Message
 pub mod Said

@@ -3,11 +3,15 @@
 // `specs/` says what is right, over the document's content; `proofs/` says why the code gives it.
 mod aft;
 mod blame;
+mod decimal;
 mod entry;
 mod fore;
+mod form;
 mod out;
 mod pair;
+mod path;
 mod said;
+mod shown;
 mod transition;
 
 pub use said::Arg;

@@ -1,0 +1,93 @@
+// Rust's `format!`: a form with its arguments in their places.
+use crate::decimal::put_decimal;
+use crate::out::put_byte;
+use crate::path::put_names;
+use crate::said::Arg;
+use crate::shown::put_text;
+use crate::shown::put_type;
+use crate::shown::put_what;
+ghost use Prim.Native.Nat.{_+_, _≤_};
+ghost use mathlib.Core.List.{[], _∷_, map};
+ghost use lib.ListN.{length};
+ghost use Rattle.text.specs.Form.{format};
+ghost use Rattle.text.specs.Put.{Put};
+ghost use Rattle.text.specs.Said.{shown};
+
+// Puts one argument.
+pub(crate) fn put_arg(out: &mut [u8], at: usize, doc: &[u8], a: Arg) -> usize
+    requires { ⌜ (at ≤ 0x500_0000) × (length (now doc) ≤ 0xffff) ⌝ }
+    ensures { λ r. ⌜ Put (now (out .entry)) at (shown (now (doc .entry)) a) r (now (out .exit)) ⌝ }
+    ensures { λ r. ⌜ r ≤ at + 0x8_0100 ⌝ }
+{
+    match a {
+        Arg::Blank => at,
+        Arg::Name(place) => put_text(out, at, doc, place),
+        Arg::Number(n) => put_decimal(out, at, n),
+        Arg::Debug(t) => put_type(out, at, doc, t),
+        Arg::Path(place) => put_names(out, at, doc, place),
+        Arg::Word(w) => put_what(out, at, w),
+    }
+}
+
+// Puts a form with its arguments in their places.
+pub(crate) fn put_form(out: &mut [u8], at: usize, doc: &[u8], form: &[u8], args: [Arg; 5]) -> usize
+    requires { ⌜ (at ≤ 0x400_0000) × (length (now doc) ≤ 0xffff) × (length (now form) ≤ 0xfff) ⌝ }
+    ensures { λ r. ⌜ Put (now (out .entry)) at (format (now (form .entry)) (map (shown (now (doc .entry))) args)) r (now (out .exit)) ⌝ }
+    ensures { λ r. ⌜ r ≤ at + 0x29_0000 ⌝ }
+{
+    let mut k = at;
+    let mut n: usize = 0;
+    let mut i: usize = 0;
+    while i < form.len() {
+        let c = form[i];
+        i += 1;
+        if c == 123 {
+            if n < 5 {
+                let a = args[n];
+                k = put_arg(out, k, doc, a);
+                n += 1;
+            }
+        } else if c != 125 {
+            k = put_byte(out, k, c);
+        }
+    }
+    k
+}
+
+// Puts a form of one argument.
+pub(crate) fn put_form1(out: &mut [u8], at: usize, doc: &[u8], form: &[u8], a: Arg) -> usize
+    requires { ⌜ (at ≤ 0x400_0000) × (length (now doc) ≤ 0xffff) × (length (now form) ≤ 0xfff) ⌝ }
+    ensures { λ r. ⌜ Put (now (out .entry)) at (format (now (form .entry)) (shown (now (doc .entry)) a ∷ [])) r (now (out .exit)) ⌝ }
+    ensures { λ r. ⌜ r ≤ at + 0x29_0000 ⌝ }
+{
+    let e = Arg::Blank;
+    put_form(out, at, doc, form, [a, e, e, e, e])
+}
+
+// Puts a form of two arguments.
+pub(crate) fn put_form2(out: &mut [u8], at: usize, doc: &[u8], form: &[u8], a: Arg, b: Arg) -> usize
+    requires { ⌜ (at ≤ 0x400_0000) × (length (now doc) ≤ 0xffff) × (length (now form) ≤ 0xfff) ⌝ }
+    ensures { λ r. ⌜ Put (now (out .entry)) at (format (now (form .entry)) (shown (now (doc .entry)) a ∷ shown (now (doc .entry)) b ∷ [])) r (now (out .exit)) ⌝ }
+    ensures { λ r. ⌜ r ≤ at + 0x29_0000 ⌝ }
+{
+    let e = Arg::Blank;
+    put_form(out, at, doc, form, [a, b, e, e, e])
+}
+
+// Puts a form of three arguments.
+pub(crate) fn put_form3(
+    out: &mut [u8],
+    at: usize,
+    doc: &[u8],
+    form: &[u8],
+    a: Arg,
+    b: Arg,
+    c: Arg,
+) -> usize
+    requires { ⌜ (at ≤ 0x400_0000) × (length (now doc) ≤ 0xffff) × (length (now form) ≤ 0xfff) ⌝ }
+    ensures { λ r. ⌜ Put (now (out .entry)) at (format (now (form .entry)) (shown (now (doc .entry)) a ∷ shown (now (doc .entry)) b ∷ shown (now (doc .entry)) c ∷ [])) r (now (out .exit)) ⌝ }
+    ensures { λ r. ⌜ r ≤ at + 0x29_0000 ⌝ }
+{
+    let e = Arg::Blank;
+    put_form(out, at, doc, form, [a, b, c, e, e])
+}
