@@ -8,3 +8,4 @@ pub mod CauseText
 pub mod Message
 pub mod Said
 pub mod Says
+pub mod Told

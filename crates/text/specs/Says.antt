@@ -1,5 +1,5 @@
 -- What the code that finds the arguments of a message promises: for whatever module reads, it says what the definition says.
-use Prim.Native.Nat.{ℕ, zero, suc, _≤_}
+use Prim.Native.Nat.{ℕ, zero, suc, _*_, _≤_}
 use mathlib.Core.Path.{_≡_}
 use mathlib.Core.List.{List}
 use mathlib.Core.Bool.{cond}
@@ -12,7 +12,8 @@ use Rattle.reading.specs.Item.{readNumber, readCount}
 use Rattle.reading.specs.Combine.{listOf}
 use Rattle.reading.specs.Decl.{ConstructorVariant, ConstructorGroup, readConstructorVariant}
 use Rattle.reading.specs.Transition.{Transition}
-use Rattle.reading.specs.Module.{Module}
+use Rattle.reading.specs.Module.{Module, Ir, readModule}
+use Rattle.reading.specs.Document.{readDocument}
 use Rattle.typing.specs.Causes.{Answer}
 use Rattle.typing.specs.Guards.{contradictoryEqualities}
 use Rattle.typing.specs.Patterns.{validateEventPattern}
@@ -26,8 +27,10 @@ use Rattle.typing.specs.declared.table.Found.the-variants.{At, Nothing}
 use Rattle.findings.specs.Scene.{Bytes, Reads, RowAt, Rows, Scene, StatesAt}
 use Rattle.findings.specs.Promises.{Claims}
 use Rattle.findings.specs.Errors.{claims}
+use Rattle.findings.specs.Finding.{note, inModule}
+use Rattle.findings.specs.declared.whole.Ready.{Ready}
 use Rattle.findings.specs.Mentions.{states}
-use Rattle.text.specs.Message.{Saying, ofGiven, ofEntry, untyped, inside, ofState, ofNext, ofPattern, ofGuard, ofGuardType, ofSet, ofValue, ofEmit, ofPriority, ofTwo, ofId, ofClash}
+use Rattle.text.specs.Message.{Saying, saying, sayingText, messageOf, ofGiven, ofEntry, untyped, inside, ofState, ofNext, ofPattern, ofGuard, ofGuardType, ofSet, ofValue, ofEmit, ofPriority, ofTwo, ofId, ofClash}
 use Rattle.text.specs.Said.{sayingOf}
 use Rattle.text.specs.declared.said.Said.{Said}
 
@@ -80,6 +83,13 @@ WithStates s places found m = Scene s places m × StatesAt s found (states m)
 -- the place of the list of variants of event group i
 pub record VariantsOf (s places : List ℕ) (i : ℕ) (r : Found) : Type 0 where
   pub of : (m : Module) → Scene s places m → Entry (listOf maxList readConstructorVariant) s r (variantsIn (getElem? (m .events) i))
+
+-- the places of its transitions' fields, and with them the names that are declared
+abbrev pub WithRows : List ℕ → List ℕ → List ℕ → ℕ → Module → Type 0
+WithRows s places rows count m = Scene s places m × (Rows s rows (m .transitions) × (count ≡ length (m .transitions)))
+
+abbrev pub WithOwn : List ℕ → List ℕ → List ℕ → ℕ → List ℕ → List ℕ → Module → Type 0
+WithOwn s places rows count names enums m = WithRows s places rows count m × Agree (envAt s names enums) (forModule m)
 
 -- what X says of a module of which H is known
 pub record Says (H : Module → Type 0) (s : List ℕ) (X : Module → Option Saying) (r : Said) : Type 0 where
@@ -164,3 +174,27 @@ pub record Tables (s places rows : List ℕ) (count : ℕ) (found : Found) (name
   pub states-at : StatesAt s found (states m)
   pub agree : Agree (envAt s names enums) (forModule m)
   pub claims-are : Claims s properties (claims m)
+
+-- sites 6 to 13, and the others
+pub record SaysOwn (H : Module → Type 0) (s : List ℕ) (site i j : ℕ) (r : Said) : Type 0 where
+  pub of : 6 ≤ site → site ≤ 13 → Says H s (λ m. saying m site i j) r
+
+pub record SaysPlain (H : Module → Type 0) (s : List ℕ) (site i j : ℕ) (r : Said) : Type 0 where
+  pub below : site ≤ 5 → Says H s (λ m. saying m site i j) r
+  pub above : 14 ≤ site → Says H s (λ m. saying m site i j) r
+
+-- by the words of a table that are in use: so many of the enums, so many of the properties and assumptions
+abbrev pub Named : List ℕ → List ℕ → List ℕ → ℕ → Ready → List ℕ → List ℕ → List ℕ → Module → Type 0
+Named s places rows count known table enums properties m = Tables s places rows count (known .found) (take (2 * known .vars) table) (take (known .enums) enums) (take (known .claims) properties) m
+
+-- what is said of a finding in the module at a place
+pub record SaysIn (s : List ℕ) (at site i j : ℕ) (r : Said) : Type 0 where
+  pub of : (m : Module) (n : ℕ) → readModule s at ≡ ok m n → sayingOf s r ≡ saying m site i j
+
+-- the place of module number k
+pub record ModuleAt (s : List ℕ) (k : ℕ) (r : Found) : Type 0 where
+  pub of : (x : Ir) (n : ℕ) → readDocument s ≡ ok x n → Entry readModule s r (getElem? (x .modules) k)
+
+-- the text of what is said of a finding, by its words
+pub record SaysWords (s : List ℕ) (owner site i j : ℕ) (r : Said) : Type 0 where
+  pub of : (x : Ir) (n c : ℕ) → readDocument s ≡ ok x n → sayingText site (sayingOf s r) ≡ messageOf x (inModule owner (note site i j c))

@@ -7,12 +7,16 @@ mod decimal;
 mod entry;
 mod fore;
 mod form;
+mod message;
 mod out;
 mod pair;
 mod path;
 mod said;
+mod say;
 mod shown;
+mod told;
 mod transition;
 
 pub use said::Arg;
 pub use said::Said;
+pub use told::Told;

@@ -1,0 +1,133 @@
+// The message of a finding, by its words.
+use crate::entry::entry_of;
+use crate::said::Said;
+use crate::say::say;
+use findings::Ready;
+use findings::name_module;
+use findings::open_module;
+use typing::Found;
+use typing::after;
+use typing::after_head;
+ghost use mathlib.Core.Path.{_≡_};
+ghost use Prim.Native.Nat.{_*_, _≤_};
+ghost use lib.ListN.{length, take};
+ghost use Rattle.text.specs.Message.{saying};
+ghost use Rattle.text.specs.Says.{Named, Says, SaysIn, ModuleAt, SaysWords};
+
+// What is said by the tables of a module, of which so many words are in use.
+pub(crate) fn say_named<'a>(
+    doc: &'a [u8],
+    places: &'a [usize],
+    rows: &'a [usize],
+    count: u8,
+    known: Ready,
+    table: &mut [usize],
+    enums: &'a [usize],
+    claims: &'a [usize],
+    site: u32,
+    i: usize,
+    j: usize,
+) -> Said
+    requires { ⌜ 1020 ≤ length (now table) ⌝ }
+    requires { ⌜ known .enums ≤ length (now enums) ⌝ }
+    requires { ⌜ known .claims ≤ length (now claims) ⌝ }
+    ensures { λ r. ⌜ Says (Named (now (doc .entry)) (now (places .entry)) (now (rows .entry)) count known (now (table .entry)) (now (enums .entry)) (now (claims .entry))) (now (doc .entry)) (λ m. saying m site i j) r ⌝ }
+{
+    let found = known.found;
+    let a = known.enums;
+    let b = known.claims;
+    say(
+        doc,
+        places,
+        rows,
+        count,
+        found,
+        table,
+        known.vars,
+        &enums[0..a],
+        &claims[0..b],
+        site,
+        i,
+        j,
+    )
+}
+
+// What is said of a finding in the module at a place. The tables are filled anew.
+pub(crate) fn say_opened(
+    doc: &[u8],
+    at: usize,
+    places: &mut [usize],
+    rows: &mut [usize],
+    table: &mut [usize],
+    enums: &mut [usize],
+    claims: &mut [usize],
+    site: u32,
+    i: usize,
+    j: usize,
+) -> Said
+    requires { ⌜ 11 ≤ length (now places) ⌝ }
+    requires { ⌜ 2040 ≤ length (now rows) ⌝ }
+    requires { ⌜ 1020 ≤ length (now table) ⌝ }
+    requires { ⌜ 510 ≤ length (now enums) ⌝ }
+    requires { ⌜ length (now claims) ≡ 1020 ⌝ }
+    ensures { λ r. ⌜ SaysIn (now (doc .entry)) at site i j r ⌝ }
+{
+    let listed = open_module(doc, at, places, rows);
+    let known = name_module(doc, places, table, enums, claims);
+    say_named(
+        doc,
+        places,
+        rows,
+        listed.count,
+        known,
+        table,
+        enums,
+        claims,
+        site,
+        i,
+        j,
+    )
+}
+
+// What is said of a finding in the module at a place.
+pub(crate) fn say_in(doc: &[u8], at: usize, site: u32, i: usize, j: usize) -> Said
+    ensures { λ r. ⌜ SaysIn (now (doc .entry)) at site i j r ⌝ }
+{
+    let mut places = [0usize; 11];
+    let mut rows = [0usize; 2040];
+    let mut table = [0usize; 1020];
+    let mut enums = [0usize; 510];
+    let mut claims = [0usize; 1020];
+    say_opened(
+        doc,
+        at,
+        &mut places,
+        &mut rows,
+        &mut table,
+        &mut enums,
+        &mut claims,
+        site,
+        i,
+        j,
+    )
+}
+
+// The place of module number k.
+pub(crate) fn module_at(doc: &[u8], k: usize) -> Found
+    ensures { λ r. ⌜ ModuleAt (now (doc .entry)) k r ⌝ }
+{
+    let version = after_head(doc, 0);
+    let modules = after(doc, version);
+    entry_of(doc, modules, 16, k)
+}
+
+// What is said of a finding, by its words.
+pub(crate) fn say_words(doc: &[u8], owner: usize, site: u32, i: usize, j: usize) -> Said
+    ensures { λ r. ⌜ SaysWords (now (doc .entry)) owner site i j r ⌝ }
+{
+    let f = module_at(doc, owner);
+    let Found::At(at) = f else {
+        return Said::Nothing;
+    };
+    say_in(doc, at, site, i, j)
+}
