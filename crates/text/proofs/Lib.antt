@@ -10,4 +10,6 @@ pub mod SetLaws
 pub mod JudgedLaws
 pub mod NamedLaws
 pub mod ForeLaws
-pub mod AftLaws
+pub mod ErrorLaws
+pub mod ClaimLaws
+pub mod VariantLaws
