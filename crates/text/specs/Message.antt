@@ -278,8 +278,8 @@ sayings m i j =
     ∷ clashSaid i m
     ∷ []
 
-unfoldable pub saying : Module → ℕ → ℕ → ℕ → Option Saying
-saying m site i j = getD (sayings m i j) site none
+unfoldable pub saying : ℕ → ℕ → ℕ → Module → Option Saying
+saying site i j m = getD (sayings m i j) site none
 
 -- the text of what is said at a site
 unfoldable pub sayingText : ℕ → Option Saying → List ℕ
@@ -288,7 +288,7 @@ sayingText site (some x) = format (siteForm site) (x .args) ++ blameText (x .bla
 
 -- the message of what is noted in a module, and of a finding
 unfoldable pub noteText : Module → Note → List ℕ
-noteText m x = sayingText (x .site) (saying m (x .site) (x .first) (x .second))
+noteText m x = sayingText (x .site) (saying (x .site) (x .first) (x .second) m)
 
 unfoldable pub inOwner : Note → Option Module → List ℕ
 inOwner x none = []

@@ -177,11 +177,11 @@ pub record Tables (s places rows : List ℕ) (count : ℕ) (found : Found) (name
 
 -- sites 6 to 13, and the others
 pub record SaysOwn (H : Module → Type 0) (s : List ℕ) (site i j : ℕ) (r : Said) : Type 0 where
-  pub of : 6 ≤ site → site ≤ 13 → Says H s (λ m. saying m site i j) r
+  pub of : 6 ≤ site → site ≤ 13 → Says H s (saying site i j) r
 
 pub record SaysPlain (H : Module → Type 0) (s : List ℕ) (site i j : ℕ) (r : Said) : Type 0 where
-  pub below : site ≤ 5 → Says H s (λ m. saying m site i j) r
-  pub above : 14 ≤ site → Says H s (λ m. saying m site i j) r
+  pub below : site ≤ 5 → Says H s (saying site i j) r
+  pub above : 14 ≤ site → Says H s (saying site i j) r
 
 -- by the words of a table that are in use: so many of the enums, so many of the properties and assumptions
 abbrev pub Named : List ℕ → List ℕ → List ℕ → ℕ → Ready → List ℕ → List ℕ → List ℕ → Module → Type 0
@@ -189,7 +189,7 @@ Named s places rows count known table enums properties m = Tables s places rows 
 
 -- what is said of a finding in the module at a place
 pub record SaysIn (s : List ℕ) (at site i j : ℕ) (r : Said) : Type 0 where
-  pub of : (m : Module) (n : ℕ) → readModule s at ≡ ok m n → sayingOf s r ≡ saying m site i j
+  pub of : (m : Module) (n : ℕ) → readModule s at ≡ ok m n → sayingOf s r ≡ saying site i j m
 
 -- the place of module number k
 pub record ModuleAt (s : List ℕ) (k : ℕ) (r : Found) : Type 0 where

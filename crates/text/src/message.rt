@@ -31,7 +31,7 @@ pub(crate) fn say_named<'a>(
     requires { ⌜ 1020 ≤ length (now table) ⌝ }
     requires { ⌜ known .enums ≤ length (now enums) ⌝ }
     requires { ⌜ known .claims ≤ length (now claims) ⌝ }
-    ensures { λ r. ⌜ Says (Named (now (doc .entry)) (now (places .entry)) (now (rows .entry)) count known (now (table .entry)) (now (enums .entry)) (now (claims .entry))) (now (doc .entry)) (λ m. saying m site i j) r ⌝ }
+    ensures { λ r. ⌜ Says (Named (now (doc .entry)) (now (places .entry)) (now (rows .entry)) count known (now (table .entry)) (now (enums .entry)) (now (claims .entry))) (now (doc .entry)) (saying site i j) r ⌝ }
 {
     let found = known.found;
     let a = known.enums;

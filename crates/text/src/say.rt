@@ -185,7 +185,7 @@ pub(crate) fn say<'a>(
     j: usize,
 ) -> Said
     requires { ⌜ 1020 ≤ length (now table) ⌝ }
-    ensures { λ r. ⌜ Says (Tables (now (doc .entry)) (now (places .entry)) (now (rows .entry)) count found (take (2 * vars) (now (table .entry))) (now (enums .entry)) (now (claims .entry))) (now (doc .entry)) (λ m. saying m site i j) r ⌝ }
+    ensures { λ r. ⌜ Says (Tables (now (doc .entry)) (now (places .entry)) (now (rows .entry)) count found (take (2 * vars) (now (table .entry))) (now (enums .entry)) (now (claims .entry))) (now (doc .entry)) (saying site i j) r ⌝ }
     ensures { λ _. ⌜ length (now (table .exit)) ≡ length (now (table .entry)) ⌝ }
     ensures { λ _. ⌜ take (2 * vars) (now (table .exit)) ≡ take (2 * vars) (now (table .entry)) ⌝ }
 {

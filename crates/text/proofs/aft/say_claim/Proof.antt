@@ -1,5 +1,5 @@
 -- By whether the table has so many.
-use Rattle.text.proofs.AftLaws.{claim-absent, claim-said}
+use Rattle.text.proofs.ClaimLaws.{claim-absent, claim-said}
 use borrow.Author.Needs.{needs}
 use Rattle.text.proofs.aft.say_claim.Statement.{statement}
 use Rattle.text.proofs.aft.say_claim.Tie as tie

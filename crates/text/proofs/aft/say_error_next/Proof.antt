@@ -1,5 +1,5 @@
 -- By whether there is one.
-use Rattle.text.proofs.AftLaws.{error-absent, error-next-said}
+use Rattle.text.proofs.ErrorLaws.{error-next-absent, error-next-said}
 use borrow.Author.Needs.{needs}
 use Rattle.text.proofs.aft.say_error_next.Statement.{statement}
 use Rattle.text.proofs.aft.say_error_next.Tie as tie
@@ -10,7 +10,7 @@ say-error-next-spec =
     (tie.spec
     (λ c κs. search needs)
     (λ c κs. search needs)
-    (λ c. search error-absent)
+    (λ c. search error-next-absent)
     (λ c κs. search needs)
     (λ c κs. search needs)
     (λ c κs. search needs)

@@ -1,5 +1,5 @@
 -- By whether the table has so many.
-use Rattle.text.proofs.AftLaws.{formula-absent, formula-said}
+use Rattle.text.proofs.ClaimLaws.{formula-absent, formula-said}
 use borrow.Author.Needs.{needs}
 use Rattle.text.proofs.aft.say_formula.Statement.{statement}
 use Rattle.text.proofs.aft.say_formula.Tie as tie

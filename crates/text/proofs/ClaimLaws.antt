@@ -1,59 +1,35 @@
--- What is said of on_error, of properties and assumptions, of State variants and of events.
+-- What is said of properties and assumptions, by their table.
 use Prim.Native.Nat.{ℕ, _+_, _*_, _/_, _<_, _≤_}
-use mathlib.Core.Path.{_≡_, refl, sym, ap, _∙_}
+use mathlib.Core.Path.{_≡_, sym, ap, _∙_}
 use mathlib.Core.List.{List}
-use mathlib.Core.Bool.{Bool, true, false}
-use mathlib.Core.Option.{Option, none, some}
+use mathlib.Core.Option.{Option, some}
 use native.Mathlib.Omega.{arith}
 use lib.ListN.{length, getD, getElem?}
-use lib.Dec.{eqb}
 use Rattle.reading.specs.Limits.{maxDepth}
-use Rattle.reading.specs.Transition.{OnError, readOnError}
-use Rattle.reading.specs.Module.{Property, Module}
+use Rattle.reading.specs.Module.{Property}
 use Rattle.reading.specs.Skip.{textAt}
-use Rattle.reading.proofs.Views.{on-error-at}
 use Rattle.reading.proofs.Walks.{name-text}
-use Rattle.typing.specs.Causes as causes
 use Rattle.typing.specs.Env.{forModule}
 use Rattle.typing.specs.Formulas.{typeFormula}
 use Rattle.typing.specs.Judges.{TypesFormula}
 use Rattle.typing.specs.Means.{unfitOf, blameOf}
-use Rattle.typing.specs.Table.{afterHead, envAt}
+use Rattle.typing.specs.Table.{envAt}
 use Rattle.typing.specs.declared.cause.Blame.{Blame}
 use Rattle.typing.specs.declared.cause.Blame.the-variants as blame
 use Rattle.typing.specs.declared.rules.Fit.{Fit}
 use Rattle.typing.proofs.Agreement.{formula-agree}
-use Rattle.typing.proofs.EnvLaws.{fields-head}
-use Rattle.findings.specs.Scene.{Reads, Scene}
-use Rattle.findings.specs.Errors.{claims}
 use Rattle.findings.specs.Promises.{Claims}
 use Rattle.findings.proofs.PlaceLaws.{entry-past, entry-at}
 use Rattle.findings.proofs.RowLaws.{moved}
 use Rattle.text.specs.CauseText.{aloneBlame}
-use Rattle.text.specs.Message.{Saying, ofGiven, ofErrorNext, ofClaim, ofFormula, errorNextSaid, claimSaid, formulaSaid}
+use Rattle.text.specs.Message.{Saying, ofGiven, ofClaim, ofFormula, claimSaid, formulaSaid}
 use Rattle.text.specs.Said.{shown, sayingOf}
 use Rattle.text.specs.Says.{WithClaims, WithFormulas, Says}
 use Rattle.text.specs.declared.said.Arg.the-variants.{Blank, Name}
 use Rattle.text.specs.declared.said.Said.{Said}
 use Rattle.text.specs.declared.said.Said.the-variants.{Nothing, Line}
-use Rattle.text.proofs.NamedLaws.{two-said, name-said, absent-said, present-said}
+use Rattle.text.proofs.NamedLaws.{two-said, name-said}
 
--- where an error leads
-pub next-text : (s : List ℕ) {at state : ℕ} {x : OnError} → state ≡ afterHead s at → Reads readOnError s at x → textAt s state ≡ x .next-state
-next-text s {at} {state} {x} i g =
-    let d = on-error-at s at x (g .end) (g .is) in
-    ap (textAt s) (i ∙ fields-head 2 s at tt (d .next-state) (d .opens)) ∙ name-text s (d .next-state) (x .next-state) (d .emits) (d .next-state-is)
-
-module _ (s places : List ℕ) {at : ℕ} {t : Bool} (k : at ≡ getD places 2 0) (e : t ≡ eqb (getD s at 0) 246) where
-  pub error-absent : t ≡ true → Says (Scene s places) s errorNextSaid Nothing
-  error-absent q = record { of = λ m g. absent-said readOnError s at (moved k (g .on-error-is)) e (ofErrorNext m) q }
-
-  pub error-next-said : {a state : ℕ} {r : Said} → t ≡ false → a ≡ getD places 0 0 → state ≡ afterHead s at → r ≡ Line (Name a) (Name state) Blank Blank Blank blame.Nothing → Says (Scene s places) s errorNextSaid r
-  error-next-said z i j q = record {
-    of = λ m g. present-said readOnError s at (moved k (g .on-error-is)) e (ofErrorNext m) z λ x h. name-said s places m g i q (next-text s j h);
-  }
-
--- properties and assumptions, by their table
 module _ (s table : List ℕ) {i : ℕ} {ps : List Property} (g : Claims s table ps) (f : Property → Option Saying) where
   pub no-claim : length table / 2 ≤ i → sayingOf s Nothing ≡ ofGiven f (getElem? ps i)
   unfolding sayingOf ofGiven
