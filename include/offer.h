@@ -27,7 +27,9 @@ enum {
     OFFER_TOO_DEEP = 7,         /* an expression or formula would start at depth 33; its start */
     OFFER_TRAILING = 8,         /* bytes follow the document; the first of them */
     OFFER_UNKNOWN_VERSION = 9,  /* ir_version over 1; its start */
-    OFFER_SHORT_SHEET = 10      /* of offer_findings: the findings need more words than were lent; their number */
+    OFFER_SHORT_SHEET = 10,     /* of offer_findings: the findings need more words than were lent; their number */
+    OFFER_NO_LINE = 11,         /* of offer_message: there is no message of that number; the number */
+    OFFER_SHORT_LINE = 12       /* of offer_message: the message is longer than the bytes lent; its length */
 };
 
 /* Whether the bytes are a document: OFFER_ACCEPTED, or the refusal's number. *place is the refusal's place, an offset
@@ -40,6 +42,12 @@ uint32_t offer_read(const uint8_t *doc, size_t doc_len, uint64_t *place);
  * past them keep their contents. Else the refusal's number, 1 to 10: answer[0] is its place, answer[1] is 0, and no word is
  * changed. words_len is the number of words, and may be 0. */
 uint32_t offer_findings(const uint8_t *doc, size_t doc_len, uint32_t *words, size_t words_len, uint64_t answer[2]);
+
+/* The message of one finding, in the words of validator.rs: number 0 is that of the first finding that offer_findings writes.
+ * OFFER_ACCEPTED where it was written from the front of the text: answer[0] is its length, answer[1] is 0, and the bytes past it
+ * keep their contents; no byte 0 is put after it. Else the refusal's number, 1 to 9, 11 or 12: answer[0] is its place, answer[1]
+ * is 0, and no byte is changed. text_len may be 0. */
+uint32_t offer_message(const uint8_t *doc, size_t doc_len, uint64_t number, uint8_t *text, size_t text_len, uint64_t answer[2]);
 
 #ifdef __cplusplus
 }

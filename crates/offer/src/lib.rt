@@ -2,6 +2,7 @@
 use findings::Reply;
 use reading::Fault;
 use reading::Verdict;
+use text::Told;
 ghost use mathlib.Core.Path.{_≡_};
 ghost use mathlib.Core.List.{[], _∷_};
 ghost use lib.ListN.{length};
@@ -10,6 +11,8 @@ ghost use Rattle.reading.specs.Fault.{number};
 ghost use Rattle.reading.specs.Link.{verdict, numberOf, placeOf};
 ghost use Rattle.findings.specs.Reply.{replyTo, sheetOf, firstWord, secondWord};
 ghost use Rattle.findings.specs.Reply as reply;
+ghost use Rattle.text.specs.Told.{toldOf, textOf};
+ghost use Rattle.text.specs.Told as told;
 
 // Document 01's number of a fault.
 fn fault_number(fault: Fault) -> u32
@@ -78,6 +81,35 @@ pub extern "C" fn offer_findings(doc: &[u8], words: &mut [u32], answer: &mut [u6
         Reply::Short(count) => {
             put_two(answer, count as u64, 0);
             10
+        }
+    }
+}
+
+// The message of one finding of a document, by its number: 0 where it was written, and `answer` takes its length and 0; else the
+// refusal's number, `answer` takes its place and 0, and no byte is changed.
+#[no_mangle]
+pub extern "C" fn offer_message(doc: &[u8], number: u64, out: &mut [u8], answer: &mut [u64; 2]) -> u32
+    ensures { λ r. ⌜ r ≡ told.numberOf (toldOf number (now (out .entry)) (readDocument (now (doc .entry)))) ⌝ }
+    ensures { λ _. ⌜ now (out .exit) ≡ textOf number (now (out .entry)) (readDocument (now (doc .entry))) ⌝ }
+    ensures { λ _. ⌜ now (answer .exit) ≡ told.placeOf (toldOf number (now (out .entry)) (readDocument (now (doc .entry)))) ∷ 0 ∷ [] ⌝ }
+{
+    let t = text::message(doc, number as usize, out);
+    match t {
+        Told::Written(length) => {
+            put_two(answer, length as u64, 0);
+            0
+        }
+        Told::Refused(fault, place) => {
+            put_two(answer, place as u64, 0);
+            fault_number(fault)
+        }
+        Told::Missing(k) => {
+            put_two(answer, k as u64, 0);
+            11
+        }
+        Told::Short(length) => {
+            put_two(answer, length as u64, 0);
+            12
         }
     }
 }

@@ -31,6 +31,7 @@ use Rattle.findings.specs.Finding.{note, inModule}
 use Rattle.findings.specs.declared.whole.Ready.{Ready}
 use Rattle.findings.specs.Mentions.{states}
 use Rattle.text.specs.Message.{Saying, saying, sayingText, messageOf, ofGiven, ofEntry, untyped, inside, ofState, ofNext, ofPattern, ofGuard, ofGuardType, ofSet, ofValue, ofEmit, ofPriority, ofTwo, ofId, ofClash}
+use Rattle.text.specs.Put.{Put}
 use Rattle.text.specs.Said.{sayingOf}
 use Rattle.text.specs.declared.said.Said.{Said}
 
@@ -198,3 +199,7 @@ pub record ModuleAt (s : List ℕ) (k : ℕ) (r : Found) : Type 0 where
 -- the text of what is said of a finding, by its words
 pub record SaysWords (s : List ℕ) (owner site i j : ℕ) (r : Said) : Type 0 where
   pub of : (x : Ir) (n c : ℕ) → readDocument s ≡ ok x n → sayingText site (sayingOf s r) ≡ messageOf x (inModule owner (note site i j c))
+
+-- the message of a finding is put into o from place at on, where H is known of its module
+pub record PutsFinding (H : Module → Type 0) (site i j : ℕ) (o : List ℕ) (at r : ℕ) (o′ : List ℕ) : Type 0 where
+  pub of : (m : Module) → H m → Put o at (sayingText site (saying site i j m)) r o′

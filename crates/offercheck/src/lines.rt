@@ -1,0 +1,212 @@
+// The lines of findings, by their words: the tables of a module are filled once for all of its findings that follow one another.
+use crate::output::print_page;
+use findings::Ready;
+use findings::name_module;
+use findings::open_module;
+use text::module_at;
+use text::put_bytes;
+use text::put_finding;
+use typing::Found;
+ghost use mathlib.Core.Path.{_≡_};
+ghost use Prim.Native.Nat.{_+_, _≤_};
+ghost use lib.ListN.{length};
+
+// A word; 0 past the end.
+fn word_at(words: &[u32], k: usize) -> u32 {
+    if k < words.len() {
+        return words[k];
+    }
+    0
+}
+
+// Puts the line of finding number i: so many findings are errors.
+fn put_line<'a>(
+    doc: &'a [u8],
+    words: &'a [u32],
+    errors: usize,
+    i: usize,
+    places: &'a [usize],
+    rows: &'a [usize],
+    count: u8,
+    known: Ready,
+    table: &mut [usize],
+    enums: &'a [usize],
+    claims: &'a [usize],
+    page: &mut [u8],
+    at: usize,
+) -> usize
+    requires { ⌜ length (now doc) ≤ 0xffff ⌝ }
+    requires { ⌜ i ≤ 0xffff_ffff ⌝ }
+    requires { ⌜ 1020 ≤ length (now table) ⌝ }
+    requires { ⌜ known .enums ≤ length (now enums) ⌝ }
+    requires { ⌜ known .claims ≤ length (now claims) ⌝ }
+    requires { ⌜ at ≤ 0xffff ⌝ }
+    ensures { λ _. ⌜ length (now (table .exit)) ≡ length (now (table .entry)) ⌝ }
+    ensures { λ _. ⌜ length (now (page .exit)) ≡ length (now (page .entry)) ⌝ }
+    ensures { λ r. ⌜ r ≤ at + 0x100_0000 ⌝ }
+{
+    let mut k = at;
+    if errors <= i {
+        k = put_bytes(page, k, b"warning: ");
+    }
+    let site = word_at(words, 5 * i + 1);
+    let first = word_at(words, 5 * i + 2);
+    let second = word_at(words, 5 * i + 3);
+    let end = put_finding(
+        doc,
+        places,
+        rows,
+        count,
+        known,
+        table,
+        enums,
+        claims,
+        site,
+        first as usize,
+        second as usize,
+        page,
+        k,
+    );
+    put_bytes(page, end, b"\n")
+}
+
+// The lines of the findings from number k on, as many as there are of the module whose number stands there and whose tables are filled;
+// the number of the next finding.
+fn print_run<'a>(
+    doc: &'a [u8],
+    words: &'a [u32],
+    errors: usize,
+    all: usize,
+    k: usize,
+    places: &'a [usize],
+    rows: &'a [usize],
+    count: u8,
+    known: Ready,
+    table: &mut [usize],
+    enums: &'a [usize],
+    claims: &'a [usize],
+    page: &mut [u8],
+) -> usize
+    requires { ⌜ length (now doc) ≤ 0xffff ⌝ }
+    requires { ⌜ all ≤ 0xffff ⌝ }
+    requires { ⌜ k ≤ 0xffff ⌝ }
+    requires { ⌜ 1020 ≤ length (now table) ⌝ }
+    requires { ⌜ known .enums ≤ length (now enums) ⌝ }
+    requires { ⌜ known .claims ≤ length (now claims) ⌝ }
+    ensures { λ _. ⌜ length (now (table .exit)) ≡ length (now (table .entry)) ⌝ }
+    ensures { λ _. ⌜ length (now (page .exit)) ≡ length (now (page .entry)) ⌝ }
+    ensures { λ r. ⌜ r ≤ 0xffff ⌝ }
+{
+    let owner = word_at(words, 5 * k);
+    let mut at: usize = 0;
+    let mut i = k;
+    while i < all {
+        if word_at(words, 5 * i) != owner {
+            print_page(page, at);
+            return i;
+        }
+        at = put_line(
+            doc, words, errors, i, places, rows, count, known, table, enums, claims, page, at,
+        );
+        if 49152 < at {
+            print_page(page, at);
+            at = 0;
+        }
+        i += 1;
+    }
+    print_page(page, at);
+    i
+}
+
+// The same, where the tables are yet to be filled.
+fn print_module(
+    doc: &[u8],
+    words: &[u32],
+    errors: usize,
+    all: usize,
+    k: usize,
+    places: &mut [usize],
+    rows: &mut [usize],
+    table: &mut [usize],
+    enums: &mut [usize],
+    claims: &mut [usize],
+    page: &mut [u8],
+) -> usize
+    requires { ⌜ length (now doc) ≤ 0xffff ⌝ }
+    requires { ⌜ all ≤ 0xffff ⌝ }
+    requires { ⌜ k ≤ 0xffff ⌝ }
+    requires { ⌜ 11 ≤ length (now places) ⌝ }
+    requires { ⌜ 2040 ≤ length (now rows) ⌝ }
+    requires { ⌜ 1020 ≤ length (now table) ⌝ }
+    requires { ⌜ 510 ≤ length (now enums) ⌝ }
+    requires { ⌜ length (now claims) ≡ 1020 ⌝ }
+    ensures { λ _. ⌜ length (now (places .exit)) ≡ length (now (places .entry)) ⌝ }
+    ensures { λ _. ⌜ length (now (rows .exit)) ≡ length (now (rows .entry)) ⌝ }
+    ensures { λ _. ⌜ length (now (table .exit)) ≡ length (now (table .entry)) ⌝ }
+    ensures { λ _. ⌜ length (now (enums .exit)) ≡ length (now (enums .entry)) ⌝ }
+    ensures { λ _. ⌜ length (now (claims .exit)) ≡ length (now (claims .entry)) ⌝ }
+    ensures { λ _. ⌜ length (now (page .exit)) ≡ length (now (page .entry)) ⌝ }
+    ensures { λ r. ⌜ r ≤ 0xffff ⌝ }
+{
+    let f = module_at(doc, word_at(words, 5 * k) as usize);
+    let Found::At(at) = f else {
+        return all;
+    };
+    let listed = open_module(doc, at, places, rows);
+    let known = name_module(doc, places, table, enums, claims);
+    print_run(
+        doc,
+        words,
+        errors,
+        all,
+        k,
+        places,
+        rows,
+        listed.count,
+        known,
+        table,
+        enums,
+        claims,
+        page,
+    )
+}
+
+// The lines of all findings: each turn prints at least one.
+pub(crate) fn print_findings(doc: &[u8], words: &[u32], errors: u64, warnings: u64) {
+    if 65535 < doc.len() {
+        return;
+    }
+    if 16380 < errors {
+        return;
+    }
+    if 16380 < warnings {
+        return;
+    }
+    let mut places = [0usize; 11];
+    let mut rows = [0usize; 2040];
+    let mut table = [0usize; 1020];
+    let mut enums = [0usize; 510];
+    let mut claims = [0usize; 1020];
+    let mut page = [0u8; 65536];
+    let all = errors as usize + warnings as usize;
+    let mut k: usize = 0;
+    let mut turns: usize = 0;
+    while turns < all {
+        if k < all {
+            k = print_module(
+                doc,
+                words,
+                errors as usize,
+                all,
+                k,
+                &mut places,
+                &mut rows,
+                &mut table,
+                &mut enums,
+                &mut claims,
+                &mut page,
+            );
+        }
+        turns += 1;
+    }
+}
