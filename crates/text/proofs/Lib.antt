@@ -18,5 +18,5 @@ pub mod ForeLaws
 pub mod ErrorLaws
 pub mod ClaimLaws
 pub mod VariantLaws
-pub mod MessageLaws
+pub mod WordsLaws
 pub mod ToldLaws

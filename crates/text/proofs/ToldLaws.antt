@@ -30,22 +30,31 @@ use Rattle.text.specs.declared.said.Said.{Said}
 use Rattle.text.specs.declared.told.Told.{Told}
 use Rattle.text.specs.declared.told.Told.the-variants.{Written, Refused, Missing, Short}
 
--- a text that is longer than the lent bytes, and one that isn't
-pub short-line : (o : List ℕ) {s s′ msg : List ℕ} {n : ℕ} → Put s 0 msg n s′ → length o < n → (Short n ≡ sized o msg) × (o ≡ filled o msg)
-unfolding sized filled
-short-line o {msg = msg} {n = n} p h =
-    let e : n ≡ length msg = p .next ∙ zero-add (length msg) in
-    let t : ltb (length o) (length msg) ≡ true = lt-ltb (length o) (length msg) (omega arith) in
-    (simp (t, e), simp t)
+-- a text that is longer than the lent bytes
+module _ (o : List ℕ) {s s′ msg : List ℕ} {n : ℕ} (p : Put s 0 msg n s′) (h : length o < n) where
+  longer : ltb (length o) (length msg) ≡ true
+  longer = lt-ltb (length o) (length msg) (omega (arith, p .next))
 
-pub whole-line : (o : List ℕ) {s s′ o′ msg : List ℕ} {n w : ℕ} → Put s 0 msg n s′ → n ≤ length o → Put o 0 msg w o′ → (Written w ≡ sized o msg) × (o′ ≡ filled o msg)
-unfolding sized filled
-whole-line o {msg = msg} {w = w} p h q =
-    let e : w ≡ length msg = q .next ∙ zero-add (length msg) in
-    let l : length msg ≤ length o = omega (arith, p .next) in
-    let t : ltb (length o) (length msg) ≡ false = le-ltb _ _ l in
-    let l′ : 0 + length msg ≤ length o = omega arith in
-    (simp (t, e), q .bytes ∙ sets-eq msg o 0 l′ ∙ simp (t, zero-add))
+  pub short-told : Short n ≡ sized o msg
+  unfolding sized
+  short-told = rw longer (ap Short (p .next ∙ zero-add (length msg)))
+
+  pub short-text : o ≡ filled o msg
+  unfolding filled
+  short-text = rw longer
+
+-- a text that fits
+module _ (o : List ℕ) {s s′ o′ msg : List ℕ} {n w : ℕ} (p : Put s 0 msg n s′) (h : n ≤ length o) (q : Put o 0 msg w o′) where
+  no-longer : ltb (length o) (length msg) ≡ false
+  no-longer = le-ltb (length o) (length msg) (omega (arith, p .next))
+
+  pub whole-told : Written w ≡ sized o msg
+  unfolding sized
+  whole-told = rw no-longer (ap Written (q .next ∙ zero-add (length msg)))
+
+  pub whole-text : o′ ≡ filled o msg
+  unfolding filled
+  whole-text = rw no-longer (q .bytes ∙ sets-eq msg o 0 (omega (arith, p .next)) ∙ simp zero-add)
 
 -- a finding, by its words
 line-is : (f : Finding) {owner site i j c : ℕ} → line.Words owner site i j c ≡ lineOf f → inModule owner (note site i j c) ≡ f

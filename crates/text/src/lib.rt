@@ -7,7 +7,6 @@ mod decimal;
 mod entry;
 mod fore;
 mod form;
-mod message;
 mod out;
 mod pair;
 mod path;
@@ -16,6 +15,7 @@ mod say;
 mod shown;
 mod told;
 mod transition;
+mod words;
 
 pub use said::Arg;
 pub use said::Said;

@@ -1,9 +1,9 @@
 -- The tables, then what is said by them.
 use borrow.Author.Needs.{needs}
 use native.Mathlib.Omega.{arith}
-use Rattle.text.proofs.MessageLaws.{opened-said}
-use Rattle.text.proofs.message.say_opened.Statement.{statement}
-use Rattle.text.proofs.message.say_opened.Tie as tie
+use Rattle.text.proofs.WordsLaws.{opened-said}
+use Rattle.text.proofs.words.say_opened.Statement.{statement}
+use Rattle.text.proofs.words.say_opened.Tie as tie
 
 say-named-requires : tie.Need-say-named-requires
 say-named-requires c κs =

@@ -1,8 +1,8 @@
 -- The words of the tables that are in use.
 use borrow.Author.Needs.{needs}
-use Rattle.text.proofs.MessageLaws.{named-said}
-use Rattle.text.proofs.message.say_named.Statement.{statement}
-use Rattle.text.proofs.message.say_named.Tie as tie
+use Rattle.text.proofs.WordsLaws.{named-said}
+use Rattle.text.proofs.words.say_named.Statement.{statement}
+use Rattle.text.proofs.words.say_named.Tie as tie
 
 say-requires : tie.Need-say-requires
 say-requires c κs = search needs

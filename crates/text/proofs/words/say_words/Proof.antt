@@ -1,8 +1,8 @@
 -- By whether there is the module.
 use borrow.Author.Needs.{needs}
-use Rattle.text.proofs.MessageLaws.{words-none, words-said}
-use Rattle.text.proofs.message.say_words.Statement.{statement}
-use Rattle.text.proofs.message.say_words.Tie as tie
+use Rattle.text.proofs.WordsLaws.{words-none, words-said}
+use Rattle.text.proofs.words.say_words.Statement.{statement}
+use Rattle.text.proofs.words.say_words.Tie as tie
 
 returns : tie.Need-returns
 returns c = search words-none
