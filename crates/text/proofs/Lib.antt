@@ -4,3 +4,4 @@ pub mod DecimalLaws
 pub mod ShownLaws
 pub mod PathLaws
 pub mod FormLaws
+pub mod SiteLaws

@@ -2,10 +2,10 @@
 use Rattle.text.proofs.PutLaws.{put-is}
 use Rattle.text.proofs.FormLaws.{format-one}
 use borrow.Author.Needs.{needs}
-use Rattle.text.proofs.form.put_form1.Statement.{statement}
-use Rattle.text.proofs.form.put_form1.Tie as tie
-use Rattle.text.proofs.form.put_form1.Reads as reads
-use Rattle.text.proofs.form.put_form1.Lts as lts
+use Rattle.text.proofs.form.put_one.Statement.{statement}
+use Rattle.text.proofs.form.put_one.Tie as tie
+use Rattle.text.proofs.form.put_one.Reads as reads
+use Rattle.text.proofs.form.put_one.Lts as lts
 use Rattle.text.proofs.form.put_form.Reads as put-form-reads
 
 -- src/form.rt:64:5
@@ -22,5 +22,5 @@ returns c =
     let p = c .before .before in
     (put-is (format-one _ _ _) (p .put-form .ensures .0), search needs)
 
-pub put-form1-spec : {M : Type 1} → statement M
-put-form1-spec = tie.close (tie.spec put-form-requires same-length returns)
+pub put-one-spec : {M : Type 1} → statement M
+put-one-spec = tie.close (tie.spec put-form-requires same-length returns)

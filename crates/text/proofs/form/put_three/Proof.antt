@@ -2,10 +2,10 @@
 use Rattle.text.proofs.PutLaws.{put-is}
 use Rattle.text.proofs.FormLaws.{format-three}
 use borrow.Author.Needs.{needs}
-use Rattle.text.proofs.form.put_form3.Statement.{statement}
-use Rattle.text.proofs.form.put_form3.Tie as tie
-use Rattle.text.proofs.form.put_form3.Reads as reads
-use Rattle.text.proofs.form.put_form3.Lts as lts
+use Rattle.text.proofs.form.put_three.Statement.{statement}
+use Rattle.text.proofs.form.put_three.Tie as tie
+use Rattle.text.proofs.form.put_three.Reads as reads
+use Rattle.text.proofs.form.put_three.Lts as lts
 use Rattle.text.proofs.form.put_form.Reads as put-form-reads
 
 -- src/form.rt:92:5
@@ -22,5 +22,5 @@ returns c =
     let p = c .before .before in
     (put-is (format-three _ _ _ _ _) (p .put-form .ensures .0), search needs)
 
-pub put-form3-spec : {M : Type 1} → statement M
-put-form3-spec = tie.close (tie.spec put-form-requires same-length returns)
+pub put-three-spec : {M : Type 1} → statement M
+put-three-spec = tie.close (tie.spec put-form-requires same-length returns)
