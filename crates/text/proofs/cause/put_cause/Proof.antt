@@ -1,4 +1,4 @@
--- By cases.
+-- By the cause's case.
 use borrow.Author.Needs.{needs}
 use Rattle.typing.specs.Means.{causeOf}
 use Rattle.text.specs.CauseText.{causeText}

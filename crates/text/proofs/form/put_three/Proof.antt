@@ -4,23 +4,11 @@ use Rattle.text.proofs.FormLaws.{format-three}
 use borrow.Author.Needs.{needs}
 use Rattle.text.proofs.form.put_three.Statement.{statement}
 use Rattle.text.proofs.form.put_three.Tie as tie
-use Rattle.text.proofs.form.put_three.Reads as reads
-use Rattle.text.proofs.form.put_three.Lts as lts
-use Rattle.text.proofs.form.put_form.Reads as put-form-reads
 
--- src/form.rt:92:5
-put-form-requires : tie.Need-put-form-requires
-put-form-requires c κs = search needs
-
--- src/form.rt:78:1
-same-length : tie.Need-same-length
-same-length c = search needs
-
--- src/form.rt:78:1
 returns : tie.Need-returns
 returns c =
     let p = c .before .before in
     (put-is (format-three _ _ _ _ _) (p .put-form .ensures .0), search needs)
 
 pub put-three-spec : {M : Type 1} → statement M
-put-three-spec = tie.close (tie.spec put-form-requires same-length returns)
+put-three-spec = tie.close (tie.spec (λ c κs. search needs) (λ c. search needs) returns)

@@ -5,9 +5,6 @@ use Rattle.text.proofs.SiteLaws.{at-site, least, up, no-site, at-last}
 use Rattle.text.proofs.site.put_module_site.Statement.{statement}
 use Rattle.text.proofs.site.put_module_site.Tie as tie
 
-returns : tie.Need-returns
-returns c = (no-site _ (c .match .keys1), search needs)
-
 returns-2 : tie.Need-returns-2
 unfolding siteForm
 returns-2 c =
@@ -59,7 +56,7 @@ put-module-site-spec =
     (λ c κs. search needs)
     (λ c. search needs)
     (λ c κs. search needs)
-    returns
+    (λ c. (no-site _ (c .match .keys1), search needs))
     (λ c. search needs)
     returns-2
     (λ c. search needs)
