@@ -4,6 +4,7 @@ pub mod DecimalLaws
 pub mod ShownLaws
 pub mod PathLaws
 pub mod FormLaws
+pub mod SiteLaws
 pub mod BlameLaws
 pub mod LineLaws
 pub mod EntryLaws

@@ -3,6 +3,7 @@
 // `specs/` says what is right, over the document's content; `proofs/` says why the code gives it.
 mod aft;
 mod blame;
+mod cause;
 mod decimal;
 mod entry;
 mod fore;
@@ -13,6 +14,7 @@ mod path;
 mod said;
 mod say;
 mod shown;
+mod site;
 mod told;
 mod transition;
 mod words;
