@@ -18,3 +18,4 @@ pub mod ForeLaws
 pub mod ErrorLaws
 pub mod ClaimLaws
 pub mod VariantLaws
+pub mod SayLaws
