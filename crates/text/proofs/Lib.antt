@@ -19,5 +19,6 @@ pub mod ForeLaws
 pub mod ErrorLaws
 pub mod ClaimLaws
 pub mod VariantLaws
+pub mod SayLaws
 pub mod WordsLaws
 pub mod ToldLaws
