@@ -45,7 +45,16 @@ format-blank [] as′ = refl
 format-blank (c ∷ t) [] = rw (format-blank t [])
 format-blank (c ∷ t) (a ∷ as′) = rw (format-blank t as′, format-blank t (a ∷ as′))
 
--- a form of one, two or three arguments as one of five
+-- a form of fewer arguments as one of five
+pub format-none : (s t : List ℕ) → format t [] ≡ format t (map (shown s) (Blank ∷ Blank ∷ Blank ∷ Blank ∷ Blank ∷ []))
+unfolding shown
+format-none s t = sym (
+    format-blank t ([] ∷ [] ∷ [] ∷ [] ∷ [])
+    ∙ format-blank t ([] ∷ [] ∷ [] ∷ [])
+    ∙ format-blank t ([] ∷ [] ∷ [])
+    ∙ format-blank t ([] ∷ [])
+    ∙ format-blank t [])
+
 module _ (s t : List ℕ) (a : Arg) where
   pub format-one : format t (shown s a ∷ []) ≡ format t (map (shown s) (a ∷ Blank ∷ Blank ∷ Blank ∷ Blank ∷ []))
   unfolding shown

@@ -4,6 +4,7 @@ pub mod DecimalLaws
 pub mod ShownLaws
 pub mod PathLaws
 pub mod FormLaws
+pub mod SiteLaws
 pub mod BlameLaws
 pub mod LineLaws
 pub mod EntryLaws
@@ -18,3 +19,6 @@ pub mod ForeLaws
 pub mod ErrorLaws
 pub mod ClaimLaws
 pub mod VariantLaws
+pub mod SayLaws
+pub mod WordsLaws
+pub mod ToldLaws

@@ -1,5 +1,5 @@
 -- What decimal digits mean.
-use Prim.Native.Nat.{ℕ, zero, suc, _+_, _-_, _*_, _≤_}
+use Prim.Native.Nat.{ℕ, _+_, _-_, _*_, _≤_}
 use mathlib.Core.List.{List, [], _∷_}
 
 -- the number that digits mean, the most significant first, after those that mean n

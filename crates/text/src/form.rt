@@ -54,8 +54,18 @@ pub(crate) fn put_form(out: &mut [u8], at: usize, doc: &[u8], form: &[u8], args:
     k
 }
 
+// Puts a form of no argument.
+pub(crate) fn put_words(out: &mut [u8], at: usize, doc: &[u8], form: &[u8]) -> usize
+    requires { ⌜ (at ≤ 0x400_0000) × (length (now doc) ≤ 0xffff) × (length (now form) ≤ 0xfff) ⌝ }
+    ensures { λ r. ⌜ Put (now (out .entry)) at (format (now (form .entry)) []) r (now (out .exit)) ⌝ }
+    ensures { λ r. ⌜ r ≤ at + 0x29_0000 ⌝ }
+{
+    let e = Arg::Blank;
+    put_form(out, at, doc, form, [e, e, e, e, e])
+}
+
 // Puts a form of one argument.
-pub(crate) fn put_form1(out: &mut [u8], at: usize, doc: &[u8], form: &[u8], a: Arg) -> usize
+pub(crate) fn put_one(out: &mut [u8], at: usize, doc: &[u8], form: &[u8], a: Arg) -> usize
     requires { ⌜ (at ≤ 0x400_0000) × (length (now doc) ≤ 0xffff) × (length (now form) ≤ 0xfff) ⌝ }
     ensures { λ r. ⌜ Put (now (out .entry)) at (format (now (form .entry)) (shown (now (doc .entry)) a ∷ [])) r (now (out .exit)) ⌝ }
     ensures { λ r. ⌜ r ≤ at + 0x29_0000 ⌝ }
@@ -65,7 +75,7 @@ pub(crate) fn put_form1(out: &mut [u8], at: usize, doc: &[u8], form: &[u8], a: A
 }
 
 // Puts a form of two arguments.
-pub(crate) fn put_form2(out: &mut [u8], at: usize, doc: &[u8], form: &[u8], a: Arg, b: Arg) -> usize
+pub(crate) fn put_two(out: &mut [u8], at: usize, doc: &[u8], form: &[u8], a: Arg, b: Arg) -> usize
     requires { ⌜ (at ≤ 0x400_0000) × (length (now doc) ≤ 0xffff) × (length (now form) ≤ 0xfff) ⌝ }
     ensures { λ r. ⌜ Put (now (out .entry)) at (format (now (form .entry)) (shown (now (doc .entry)) a ∷ shown (now (doc .entry)) b ∷ [])) r (now (out .exit)) ⌝ }
     ensures { λ r. ⌜ r ≤ at + 0x29_0000 ⌝ }
@@ -75,7 +85,7 @@ pub(crate) fn put_form2(out: &mut [u8], at: usize, doc: &[u8], form: &[u8], a: A
 }
 
 // Puts a form of three arguments.
-pub(crate) fn put_form3(
+pub(crate) fn put_three(
     out: &mut [u8],
     at: usize,
     doc: &[u8],

@@ -145,13 +145,11 @@ pub(crate) fn say_plain<'a>(
     ensures { λ r. ⌜ SaysPlain (Tables (now (doc .entry)) (now (places .entry)) (now (rows .entry)) count found (now (names .entry)) (now (enums .entry)) (now (claims .entry))) (now (doc .entry)) site i j r ⌝ }
 {
     match site {
-        0 => Said::Nothing,
         1 => say_module(doc, places),
         2 => say_initial(doc, places),
         3 => say_module(doc, places),
         4 => say_version(doc, places),
         5 => say_init(doc, places, names, enums, i),
-        6..=13 => Said::Nothing,
         14 => say_priority_at(doc, places, rows, count, i, j),
         15 => say_pair_at(doc, places, rows, count, i, j),
         16 => say_error_next(doc, places),
@@ -165,7 +163,7 @@ pub(crate) fn say_plain<'a>(
         24 => say_pair_at(doc, places, rows, count, i, j),
         25 => say_id_at(doc, places, rows, count, i),
         26 => say_clash_at(doc, places, rows, count, i),
-        27..=u32::MAX => Said::Nothing,
+        _ => Said::Nothing,
     }
 }
 
@@ -196,5 +194,17 @@ pub(crate) fn say<'a>(
     }
     let k = 2 * (vars as usize);
     let names = &table[0..k];
-    say_plain(doc, places, rows, count, found, names, enums, claims, site, i, j)
+    say_plain(
+        doc,
+        places,
+        rows,
+        count,
+        found,
+        names,
+        enums,
+        claims,
+        site,
+        i,
+        j,
+    )
 }

@@ -1,12 +1,10 @@
 -- The first i bytes of part stand in out, and what is left of part is the measure.
-use mathlib.Core.Path.{_≡_, refl, sym, ap, _∙_}
-use mathlib.Core.List.{List}
-use Prim.Native.Nat.{ℕ, _+_, _-_, _≤_}
+use mathlib.Core.Path.{_≡_, refl, ap, _∙_}
+use Prim.Native.Nat.{_-_, _≤_}
 use native.Mathlib.Omega.{arith}
-use lib.ListN.{length, take, set, length-set}
+use lib.ListN.{length, take}
 use lib.Seq.{sets, length-sets, take-all}
 use borrow.Author.Needs.{needs}
-use Rattle.text.specs.Put.{Put}
 use Rattle.text.proofs.PutLaws.{sets-more}
 use Rattle.text.proofs.out.put_bytes.Statement.{statement}
 use Rattle.text.proofs.out.put_bytes.Tie as tie

@@ -25,9 +25,6 @@ Inv-loop out₀ at doc place count k₀ p₀ left₀ t10 out k p left =
 abbrev μ-loop : tie.MeasureT-loop
 μ-loop out₀ at doc place count k₀ p₀ left₀ t10 out k p left = left
 
-loop-holds : tie.Need-loop-holds Inv-loop μ-loop
-loop-holds c = (refl, search needs, omega arith, λ r o q. q)
-
 loop-again : tie.Need-loop-again Inv-loop μ-loop
 loop-again c =
     let u = c .before .before .before in
@@ -53,7 +50,7 @@ put-more-spec =
     (tie.spec
     Inv-loop
     μ-loop
-    loop-holds
+    (λ c. (refl, search needs, omega arith, λ r o q. q))
     (λ c. search needs)
     (λ c κs. search needs)
     (λ c κs. search needs)

@@ -5,36 +5,7 @@ use Rattle.text.proofs.PutLaws.{_then_}
 use borrow.Author.Needs.{needs}
 use Rattle.text.proofs.shown.put_enum.Statement.{statement}
 use Rattle.text.proofs.shown.put_enum.Tie as tie
-use Rattle.text.proofs.shown.put_enum.Reads as reads
-use Rattle.text.proofs.shown.put_enum.Lts as lts
-use Rattle.text.proofs.out.put_bytes.Reads as put-bytes-reads
-use Rattle.text.proofs.shown.put_text.Reads as put-text-reads
 
--- src/shown.rt:31:32
-slice-aggregate-put-bytes : tie.Need-slice-aggregate-put-bytes
-slice-aggregate-put-bytes c = search needs
-
--- src/shown.rt:31:9
-put-bytes-requires : tie.Need-put-bytes-requires
-put-bytes-requires c κs = search needs
-
--- src/shown.rt:32:9
-put-text-requires : tie.Need-put-text-requires
-put-text-requires c κs = search needs
-
--- src/shown.rt:33:23
-slice-aggregate-put-bytes-2 : tie.Need-slice-aggregate-put-bytes-2
-slice-aggregate-put-bytes-2 c = search needs
-
--- src/shown.rt:33:5
-put-bytes-requires-2 : tie.Need-put-bytes-requires-2
-put-bytes-requires-2 c κs = search needs
-
--- src/shown.rt:26:1
-same-length : tie.Need-same-length
-same-length c = search needs
-
--- src/shown.rt:26:1
 returns : tie.Need-returns
 unfolding debugType tyOf
 returns c =
@@ -47,10 +18,10 @@ pub put-enum-spec : {M : Type 1} → statement M
 put-enum-spec =
     tie.close
     (tie.spec
-    slice-aggregate-put-bytes
-    put-bytes-requires
-    put-text-requires
-    slice-aggregate-put-bytes-2
-    put-bytes-requires-2
-    same-length
+    (λ c. search needs)
+    (λ c κs. search needs)
+    (λ c κs. search needs)
+    (λ c. search needs)
+    (λ c κs. search needs)
+    (λ c. search needs)
     returns)

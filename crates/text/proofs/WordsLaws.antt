@@ -1,0 +1,77 @@
+-- The message of a finding, by its words: its module among all, the tables of that module, and what is said by them.
+use Prim.Native.Nat.{ℕ, _-_, _*_}
+use mathlib.Core.Path.{_≡_, ap, _∙_}
+use mathlib.Core.List.{List}
+use mathlib.Core.Option.{Option}
+use native.Mathlib.Omega.{arith}
+use lib.ListN.{getD, take}
+use Rattle.reading.specs.Limits.{maxModules, maxVersion}
+use Rattle.reading.specs.Module.{Module}
+use Rattle.reading.proofs.ItemLaws.{number-laws}
+use Rattle.reading.proofs.ModuleLaws.{version-agrees, module-laws}
+use Rattle.reading.proofs.Views.{document-at, ir-at}
+use Rattle.typing.specs.Table.{afterItem, afterHead, Past}
+use Rattle.typing.specs.declared.table.Found.{Found}
+use Rattle.typing.specs.declared.table.Found.the-variants as found
+use Rattle.typing.proofs.EnvLaws.{after-is, fields-head}
+use Rattle.findings.specs.Mentions.{states}
+use Rattle.findings.specs.Scene.{Opens}
+use Rattle.findings.specs.Promises.{FirstStates}
+use Rattle.findings.specs.ModulePromises.{Names}
+use Rattle.findings.specs.declared.rows.Listed.{Listed}
+use Rattle.findings.specs.declared.whole.Ready.{Ready}
+use Rattle.text.specs.Message.{Saying, saying, sayingText, noteText, inOwner, messageOf}
+use Rattle.text.specs.Said.{sayingOf}
+use Rattle.text.specs.Says.{Picked, Says, Tables, Named, SaysIn, ModuleAt, SaysWords}
+use Rattle.text.specs.declared.said.Said.{Said}
+use Rattle.text.specs.declared.said.Said.the-variants.{Nothing}
+use Rattle.text.proofs.LineLaws.{reads-there}
+use Rattle.text.proofs.EntryReads.{entry-picked, entry-nothing, entry-given}
+
+-- the words of the tables that are in use
+pub named-said : (s places rows : List ℕ) (count : ℕ) (known : Ready) (table enums properties : List ℕ) {X : Module → Option Saying} {r : Said} → Says (Tables s places rows count (known .found) (take (2 * known .vars) table) (take (known .enums - 0) enums) (take (known .claims - 0) properties)) s X r → Says (Named s places rows count known table enums properties) s X r
+named-said s places rows count known table enums properties h =
+    let i : known .enums - 0 ≡ known .enums = omega arith in
+    let j : known .claims - 0 ≡ known .claims = omega arith in
+    rw (i, j) at h
+
+-- the tables are those of the module
+pub opened-said : (s : List ℕ) (at site i j : ℕ) {places rows table enums properties : List ℕ} {l : Listed} {known : Ready} {r : Said} → Opens s at l places rows → FirstStates s (getD places 3 0) (known .found) → Names s places (record { vars = known .vars; enums = known .enums; claims = known .claims }) table enums properties → Says (Named s places rows (l .count) known table enums properties) s (saying site i j) r → SaysIn s at site i j r
+unfolding states
+opened-said s at site i j x y z w = record {
+  of = λ m n g.
+      let a = x .of m n g in
+      let d = z .of m (a .bytes) (a .scene) in
+      w .of m (record {
+        scene = a .scene;
+        rows-are = a .rows-are;
+        count-is = a .count;
+        states-at = y .of (m .enums) (a .scene .enums-are);
+        agree = d .agree;
+        claims-are = d .claims-are;
+      });
+}
+
+-- the modules stand after the version
+pub module-found : (s : List ℕ) (k : ℕ) {version modules : ℕ} {f : Found} → version ≡ afterHead s 0 → Past s version modules → Picked maxModules s modules k f → ModuleAt s k f
+module-found s k {version} {modules} e t p = record {
+  of = λ x n g.
+      let v = ir-at s 0 x n (document-at s x n g) in
+      let h = fields-head 2 s 0 tt (v .ir-version) (v .opens) in
+      let a = after-is (number-laws maxVersion (omega arith)) s (t .each) (v .ir-version) (x .ir-version) (v .modules) (version-agrees s (v .ir-version) _ _ (v .ir-version-is)) in
+      entry-picked module-laws s p (reads-there (t .is ∙ ap (afterItem s) (e ∙ h) ∙ a) (v .modules-is));
+}
+
+-- what is said in the module that a finding names
+module _ (s : List ℕ) (owner site i j : ℕ) {f : Found} (g : ModuleAt s owner f) where
+  pub words-none : f ≡ found.Nothing → SaysWords s owner site i j Nothing
+  unfolding sayingOf sayingText messageOf inOwner
+  words-none q = record { of = λ x n c h. rw (entry-nothing (g .of x n h) q) }
+
+  pub words-said : {at : ℕ} {r : Said} → f ≡ found.At at → SaysIn s at site i j r → SaysWords s owner site i j r
+  unfolding messageOf inOwner noteText
+  words-said q w = record {
+    of = λ x n c h.
+        let v = entry-given (g .of x n h) q in
+        rw (v .is) (ap (sayingText site) (w .of (v .item) (v .reads .end) (v .reads .is)));
+  }

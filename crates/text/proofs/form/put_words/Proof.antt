@@ -1,0 +1,14 @@
+-- Empty arguments at the end change nothing.
+use Rattle.text.proofs.PutLaws.{put-is}
+use Rattle.text.proofs.FormLaws.{format-none}
+use borrow.Author.Needs.{needs}
+use Rattle.text.proofs.form.put_words.Statement.{statement}
+use Rattle.text.proofs.form.put_words.Tie as tie
+
+returns : tie.Need-returns
+returns c =
+    let p = c .before .before in
+    (put-is (format-none _ _) (p .put-form .ensures .0), search needs)
+
+pub put-words-spec : {M : Type 1} → statement M
+put-words-spec = tie.close (tie.spec (λ c κs. search needs) (λ c. search needs) returns)
