@@ -11,7 +11,9 @@ mod generate;
 mod json;
 mod offer;
 mod original;
+mod rearranged;
 mod samples;
+mod shapes;
 #[cfg(test)]
 mod site_tests;
 mod sites;
