@@ -5,7 +5,7 @@ use crate::causes;
 use crate::decode::{answer, decode};
 use crate::offer::{Finder, Reader};
 use crate::original::findings;
-use crate::samples::{samples, Sample};
+use crate::samples::{every_pair, growing, samples, Sample};
 use std::fs;
 use std::hint::black_box;
 use std::path::Path;
@@ -13,6 +13,9 @@ use std::process::Command;
 use std::time::Instant;
 
 const ROUNDS: usize = 301;
+
+/// Of the calls that take longest.
+const PAIR_ROUNDS: usize = 11;
 
 /// The words that the program lends.
 const LENT: usize = 16_380;
@@ -34,30 +37,41 @@ pub fn bench(read: Reader, find: Finder) {
         line(&sample, "offer_read", ours, "Rust decode", rust);
     }
     for sample in samples() {
-        let doc = &sample.bytes[..];
-        let ours = || {
-            black_box(find(black_box(doc), &mut [0; LENT]));
-        };
-        let rust = || {
-            let decoded = decode(black_box(doc)).ok();
-            black_box(decoded.map(|ir| findings(&ir)));
-        };
-        line(
-            &sample,
-            "offer_findings",
-            ours,
-            "Rust decode and check",
-            rust,
-        );
+        findings_line(find, &sample, ROUNDS);
     }
+    println!("one module of so many transitions:");
+    for sample in growing() {
+        findings_line(find, &sample, ROUNDS);
+    }
+    println!("16 modules of 255 transitions, every pair found, counted and refused with 10:");
+    let sample = every_pair();
+    assert_eq!(find(&sample.bytes, &mut [0; LENT]), (10, [518_160, 0]));
+    findings_line(find, &sample, PAIR_ROUNDS);
+}
+
+fn findings_line(find: Finder, sample: &Sample, rounds: usize) {
+    let doc = &sample.bytes[..];
+    let ours = || {
+        black_box(find(black_box(doc), &mut [0; LENT]));
+    };
+    let rust = || {
+        let decoded = decode(black_box(doc)).ok();
+        black_box(decoded.map(|ir| findings(&ir)));
+    };
+    let its = "Rust decode and check";
+    line_of(rounds, sample, "offer_findings", ours, its, rust);
+}
+
+fn line(sample: &Sample, our: &str, ours: impl Fn(), its: &str, rust: impl Fn()) {
+    line_of(ROUNDS, sample, our, ours, its, rust);
 }
 
 /// Batches of both in turn, and the median of each.
-fn line(sample: &Sample, our: &str, ours: impl Fn(), its: &str, rust: impl Fn()) {
+fn line_of(rounds: usize, sample: &Sample, our: &str, ours: impl Fn(), its: &str, rust: impl Fn()) {
     let (ours_calls, rust_calls) = (batch(&ours), batch(&rust));
     let mut ours_times = Vec::new();
     let mut rust_times = Vec::new();
-    for _ in 0..ROUNDS {
+    for _ in 0..rounds {
         ours_times.push(time(&ours, ours_calls));
         rust_times.push(time(&rust, rust_calls));
     }
@@ -72,7 +86,9 @@ fn line(sample: &Sample, our: &str, ours: impl Fn(), its: &str, rust: impl Fn())
 
 /// How many calls make a batch.
 fn batch(call: impl Fn()) -> u32 {
-    time(&call, 10);
+    if time(&call, 1) > BATCH_NANOSECONDS {
+        return 1;
+    }
     let once = time(&call, 10).max(1.0);
     ((BATCH_NANOSECONDS / once) as u32).max(1)
 }
