@@ -9,6 +9,7 @@ mod encode;
 mod found;
 mod generate;
 mod json;
+mod kept;
 mod offer;
 mod original;
 mod rearranged;
@@ -37,6 +38,8 @@ const USAGE: &str = "usage:
   oracle same DIR           fail unless DIR/vectors.bin is what `vectors` writes
   oracle causes DIR         write DIR/vectors.bin with causes, and print counts
   oracle same-causes DIR    fail unless DIR/vectors.bin is what `causes` writes
+  oracle sheets DIR         write DIR/findings.bin, and print counts
+  oracle same-sheets DIR    fail unless DIR/findings.bin is what `sheets` writes
   oracle items DIR N SEED   write DIR/vectors.bin with N other documents, and
                             print what the replay is to print
   oracle compare [N [SEED]] the library beside the decoder on N documents
@@ -58,6 +61,8 @@ fn main() -> ExitCode {
         ["same", dir] => same_vectors(Path::new(dir)),
         ["causes", dir] => write_causes(Path::new(dir)),
         ["same-causes", dir] => same_causes(Path::new(dir)),
+        ["sheets", dir] => write_sheets(Path::new(dir)),
+        ["same-sheets", dir] => same_sheets(Path::new(dir)),
         ["items", dir, count, seed] => {
             number(count).and_then(|n| write_items(Path::new(dir), n, number(seed)?))
         }
@@ -143,6 +148,20 @@ fn same_causes(dir: &Path) -> Done {
     let all = causes::records();
     same_file(dir, causes::FILE, &causes::file(&all))?;
     println!("{} documents with causes, the same", all.len());
+    Ok(())
+}
+
+fn write_sheets(dir: &Path) -> Done {
+    let all = kept::records();
+    write_file(dir, kept::FILE, &kept::file(&all))?;
+    kept::report(&all);
+    Ok(())
+}
+
+fn same_sheets(dir: &Path) -> Done {
+    let all = kept::records();
+    same_file(dir, kept::FILE, &kept::file(&all))?;
+    println!("{} documents with findings, the same", all.len());
     Ok(())
 }
 

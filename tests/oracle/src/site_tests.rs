@@ -7,11 +7,12 @@ use crate::generate::build::*;
 use crate::generate::cases::{self, cases, pairs, sound};
 use crate::generate::rng::Rng;
 use crate::generate::{seeds, valid};
+use crate::kept;
 use crate::lang::ir::*;
 use crate::samples::samples;
 use crate::sites::{findings, Words};
 use crate::table::Table;
-use std::collections::BTreeSet;
+use std::collections::{BTreeMap, BTreeSet};
 
 /// The words of a document that is read from its bytes.
 fn words(ir: &Ir) -> Vec<Words> {
@@ -574,6 +575,24 @@ fn kept_causes() {
         assert!(counts[&(kind, 0)] > 100, "{name} not given");
         assert!(counts[&(kind, 1)] >= causes::LEAST, "{name} given");
     }
+}
+
+/// The kept findings: each site with each cause, each refusal, and no more
+/// bytes than there may be.
+#[test]
+fn kept_findings() {
+    let all = kept::records();
+    let file = kept::file(&all);
+    assert!(file == kept::file(&kept::records()), "the same each time");
+    assert!(file.len() < 800_000);
+    assert!(all.len() >= 500);
+    assert!(kept::table(&all).is_whole());
+    let mut times = BTreeMap::new();
+    for [_, site, _, _, cause] in all.iter().flat_map(|record| &record.words) {
+        *times.entry((*site, *cause)).or_insert(0) += 1;
+    }
+    assert!(times.values().all(|times| *times >= kept::LEAST));
+    assert!(kept::numbers(&all).iter().all(|times| *times > 0));
 }
 
 /// The steps of a module with each of its parts, by their places.
