@@ -10,6 +10,8 @@ mod found;
 mod generate;
 mod json;
 mod kept;
+mod lines;
+mod messages;
 mod offer;
 mod original;
 mod rearranged;
@@ -40,6 +42,14 @@ const USAGE: &str = "usage:
   oracle same-causes DIR    fail unless DIR/vectors.bin is what `causes` writes
   oracle sheets DIR         write DIR/findings.bin, and print counts
   oracle same-sheets DIR    fail unless DIR/findings.bin is what `sheets` writes
+  oracle messages N SEED DIR
+                            write DIR/messages.bin: N documents with all that
+                            `offercheck` is to print for each
+  oracle same-messages N SEED DIR
+                            fail unless DIR/messages.bin is that
+  oracle program PATH [N [SEED]]
+                            what the program prints beside what it is to
+                            print, on N documents
   oracle items DIR N SEED   write DIR/vectors.bin with N other documents, and
                             print what the replay is to print
   oracle compare [N [SEED]] the library beside the decoder on N documents
@@ -63,6 +73,17 @@ fn main() -> ExitCode {
         ["same-causes", dir] => same_causes(Path::new(dir)),
         ["sheets", dir] => write_sheets(Path::new(dir)),
         ["same-sheets", dir] => same_sheets(Path::new(dir)),
+        ["messages", count, seed, dir] => {
+            number(count).and_then(|n| write_messages(n, number(seed)?, Path::new(dir)))
+        }
+        ["same-messages", count, seed, dir] => {
+            number(count).and_then(|n| same_messages(n, number(seed)?, Path::new(dir)))
+        }
+        ["program", path] => program(path, 20_000, 1),
+        ["program", path, count] => number(count).and_then(|n| program(path, n, 1)),
+        ["program", path, count, seed] => {
+            number(count).and_then(|n| program(path, n, number(seed)?))
+        }
         ["items", dir, count, seed] => {
             number(count).and_then(|n| write_items(Path::new(dir), n, number(seed)?))
         }
@@ -163,6 +184,24 @@ fn same_sheets(dir: &Path) -> Done {
     same_file(dir, kept::FILE, &kept::file(&all))?;
     println!("{} documents with findings, the same", all.len());
     Ok(())
+}
+
+fn write_messages(count: usize, seed: u64, dir: &Path) -> Done {
+    let all = messages::records(count, seed);
+    write_file(dir, messages::FILE, &messages::file(&all))?;
+    messages::report(&all);
+    Ok(())
+}
+
+fn same_messages(count: usize, seed: u64, dir: &Path) -> Done {
+    let all = messages::records(count, seed);
+    same_file(dir, messages::FILE, &messages::file(&all))?;
+    println!("{} documents with what is printed, the same", all.len());
+    Ok(())
+}
+
+fn program(path: &str, count: usize, seed: u64) -> Done {
+    messages::program(Path::new(path), count, seed).and_then(agreed)
 }
 
 fn write_items(dir: &Path, count: usize, seed: u64) -> Done {

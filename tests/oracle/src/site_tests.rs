@@ -9,6 +9,7 @@ use crate::generate::rng::Rng;
 use crate::generate::{seeds, valid};
 use crate::kept;
 use crate::lang::ir::*;
+use crate::messages;
 use crate::samples::samples;
 use crate::sites::{findings, Words};
 use crate::table::Table;
@@ -593,6 +594,66 @@ fn kept_findings() {
     }
     assert!(times.values().all(|times| *times >= kept::LEAST));
     assert!(kept::numbers(&all).iter().all(|times| *times > 0));
+}
+
+/// The kept messages: each kind of answer, each site with each cause, each
+/// wording of cause 17, each type as the original shows it, and a list of names.
+#[test]
+fn kept_messages() {
+    let all = messages::records(2_400, 1);
+    let file = messages::file(&all);
+    assert!(file == messages::file(&messages::records(2_400, 1)));
+    assert!(file.len() < 2_000_000);
+    assert!(messages::is_whole(&all));
+    let outputs = all.iter().map(|r| String::from_utf8_lossy(&r.output));
+    let outputs: String = outputs.collect();
+    for shown in [
+        "operand of ! must be bool, found ",
+        "left operand must be bool, found ",
+        "right operand must be bool, found ",
+        "formula expression must be bool, found ",
+        "guard must be bool: guard must be bool, found ",
+        "found Bit(",
+        "found IntLit",
+        "found Enum(\"Mode\")",
+        "found Enum(\"State\")",
+        "vs Bool",
+        "field '",
+        "arg for '",
+        "enum variant path []",
+        "enum variant path [\"",
+        "\", \"",
+        "18446744073709551615",
+        "0 errors, 0 warnings",
+        "1 errors, ",
+        ", 1 warnings",
+    ] {
+        assert!(outputs.contains(shown), "{shown}");
+    }
+}
+
+/// What the program prints for document 01's example.
+#[test]
+fn the_example_printed() {
+    let doc = encode(&seeds::worked_example());
+    let due = "warning: module 'M': state 'C' is unreachable from the initial state\n\
+               warning: module 'M': event 'stop' is never used in any transition pattern (dead event)\n\
+               0 errors, 2 warnings\n";
+    assert_eq!(String::from_utf8_lossy(&messages::output(&doc)), due);
+    assert_eq!(messages::output(&[]), b"refused 2 at 0\n");
+}
+
+/// 3,276 findings are printed, one more is refused with 10.
+#[test]
+fn short_sheets() {
+    let with = |enums: usize| {
+        let mut ir = messages::alike(81);
+        let lost = (0..enums).map(|n| format!("s{n}"));
+        ir.modules[0].enums[0].variants.extend(lost);
+        messages::output(&encode(&ir))
+    };
+    assert!(with(36).ends_with(b"\n3240 errors, 36 warnings\n"));
+    assert_eq!(with(37), b"refused 10 at 3277\n");
 }
 
 /// The steps of a module with each of its parts, by their places.
