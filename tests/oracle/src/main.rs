@@ -6,6 +6,7 @@ mod causes;
 mod compare;
 mod decode;
 mod encode;
+mod examples;
 mod found;
 mod generate;
 mod json;
@@ -50,6 +51,7 @@ const USAGE: &str = "usage:
   oracle program PATH [N [SEED]]
                             what the program prints beside what it is to
                             print, on N documents
+  oracle examples DIR       write the example documents to DIR/documents
   oracle items DIR N SEED   write DIR/vectors.bin with N other documents, and
                             print what the replay is to print
   oracle compare [N [SEED]] the library beside the decoder on N documents
@@ -84,6 +86,7 @@ fn main() -> ExitCode {
         ["program", path, count, seed] => {
             number(count).and_then(|n| program(path, n, number(seed)?))
         }
+        ["examples", dir] => write_examples(Path::new(dir)),
         ["items", dir, count, seed] => {
             number(count).and_then(|n| write_items(Path::new(dir), n, number(seed)?))
         }
@@ -190,7 +193,10 @@ fn write_messages(count: usize, seed: u64, dir: &Path) -> Done {
     let all = messages::records(count, seed);
     write_file(dir, messages::FILE, &messages::file(&all))?;
     messages::report(&all);
-    Ok(())
+    match count < 2_000 || messages::is_whole(&all) {
+        true => Ok(()),
+        false => Err("a kind of answer, a site or a cause is missing".to_string()),
+    }
 }
 
 fn same_messages(count: usize, seed: u64, dir: &Path) -> Done {
@@ -198,6 +204,35 @@ fn same_messages(count: usize, seed: u64, dir: &Path) -> Done {
     same_file(dir, messages::FILE, &messages::file(&all))?;
     println!("{} documents with what is printed, the same", all.len());
     Ok(())
+}
+
+/// Each example with what is printed for it; a command runs in the folder.
+fn write_examples(dir: &Path) -> Done {
+    let documents = &dir.join("documents");
+    for example in examples::examples() {
+        let (name, sentence) = (example.name, example.sentence);
+        let bytes = match example.made {
+            examples::Made::Lines(lines) => {
+                let file = examples::hex_file(sentence, &lines);
+                write_file(documents, &format!("{name}.hex"), file.as_bytes())?;
+                lines.into_iter().flat_map(|line| line.bytes).collect()
+            }
+            examples::Made::Command(command) => {
+                let file = format!("# {sentence}\n{command}\n");
+                write_file(documents, &format!("{name}.sh"), file.as_bytes())?;
+                run_command(dir, command)?
+            }
+        };
+        write_file(documents, &format!("{name}.out"), &messages::output(&bytes))?;
+    }
+    write_file(dir, "README.md", examples::readme().as_bytes())
+}
+
+/// What the command writes.
+fn run_command(dir: &Path, command: &str) -> Result<Vec<u8>, String> {
+    let mut shell = std::process::Command::new("sh");
+    let output = shell.arg("-c").arg(command).current_dir(dir).output();
+    output.map(|o| o.stdout).map_err(|e| e.to_string())
 }
 
 fn program(path: &str, count: usize, seed: u64) -> Done {
