@@ -1,8 +1,13 @@
-//! Time of a call: the library's reading beside the decoder's, and typing
-//! beside reading.
+//! Time of a call: the library's reading beside the decoder's, its findings
+//! beside the original's, and typing beside reading; and time of a program
+//! beside the same over the original.
 
 use crate::causes;
 use crate::decode::{answer, decode};
+use crate::encode::encode;
+use crate::generate::build::ir;
+use crate::lang::ir::Ir;
+use crate::messages::{alike, output, run as run_program};
 use crate::offer::{Finder, Reader};
 use crate::original::findings;
 use crate::samples::{every_pair, growing, samples, Sample};
@@ -174,4 +179,42 @@ fn run(program: &Path, dir: &Path, mode: &str, times: u32) -> Result<f64, String
         true => Ok(time),
         false => Err(String::from_utf8_lossy(&output.stdout).into_owned()),
     }
+}
+
+const PROGRAM_ROUNDS: usize = 101;
+
+/// Two programs on each document through pipes, in turn, from start to end:
+/// the smallest document, the samples, and one with nearly as many findings as
+/// the words hold.
+pub fn programs(ours: &Path, rust: &Path) -> Result<(), String> {
+    let sample = |name, ir: Ir| Sample {
+        name,
+        bytes: encode(&ir),
+    };
+    let mut all = vec![sample("empty", ir(Vec::new()))];
+    all.extend(samples());
+    all.push(sample("found", alike(81)));
+    for sample in all {
+        let due = output(&sample.bytes);
+        let mut times = [Vec::new(), Vec::new()];
+        for _ in 0..PROGRAM_ROUNDS {
+            for (path, times) in [ours, rust].into_iter().zip(&mut times) {
+                let start = Instant::now();
+                let given = run_program(path, &sample.bytes)?;
+                times.push(start.elapsed().as_nanos() as f64);
+                if given != due {
+                    return Err(format!("{} prints something else", path.display()));
+                }
+            }
+        }
+        let [ours, rust] = times.map(median);
+        println!(
+            "{:<6} {:>6} bytes, {:>6} printed: program {ours:>9.0} ns, over the Rust {rust:>9.0} ns, Rust/ours {:.2}",
+            sample.name,
+            sample.bytes.len(),
+            due.len(),
+            rust / ours
+        );
+    }
+    Ok(())
 }

@@ -59,6 +59,8 @@ const USAGE: &str = "usage:
   oracle sweep              the same on every small change of small documents
   oracle bench              time of the library beside the decoder
   oracle typing PROGRAM DIR time of typing beside reading, by the replay's program
+  oracle programs PATH OTHER
+                            time of a program beside another, from start to end
   oracle write DIR          write the benchmark documents
   oracle table [N [SEED]]   what the original finds on N planted documents";
 
@@ -99,6 +101,7 @@ fn main() -> ExitCode {
         ["sweep"] => sweep(),
         ["bench"] => library().and_then(|read| Ok(bench::bench(read, finder()?))),
         ["typing", program, dir] => bench::typing(Path::new(program), Path::new(dir)),
+        ["programs", path, other] => bench::programs(Path::new(path), Path::new(other)),
         ["write", dir] => write_samples(Path::new(dir)),
         ["table"] => table(20_000, 1),
         ["table", count] => number(count).and_then(|n| table(n, 1)),

@@ -311,7 +311,7 @@ fn show(doc: &[u8], due: &[u8], given: &[u8]) {
 
 /// What the program prints when it reads the document to its end. It must end
 /// by itself; it need not read more bytes than a document may have.
-fn run(path: &Path, doc: &[u8]) -> Result<Vec<u8>, String> {
+pub fn run(path: &Path, doc: &[u8]) -> Result<Vec<u8>, String> {
     let failed = |e: io::Error| format!("{}: {e}", path.display());
     let mut command = Command::new(path);
     let piped = command.stdin(Stdio::piped()).stdout(Stdio::piped());
