@@ -542,6 +542,32 @@ fn planted_documents() {
     assert!(Table::of(3_000, 3).is_whole());
 }
 
+/// A table lacks something if one pair that can occur is not in it, be it only
+/// at an assumption, or if one is that cannot.
+#[test]
+fn tables_that_lack_something() {
+    let ir = ir(vec![sound()]);
+    let all: Vec<Words> = pairs()
+        .into_iter()
+        .flat_map(|(site, cause)| [[0, site, 0, 0, cause], [0, site, 1, 0, cause]])
+        .collect();
+    let is_whole = |words: &[Words]| {
+        let mut table = Table::default();
+        table.count(&ir, 0, words);
+        table.is_whole()
+    };
+    assert!(is_whole(&all));
+    for (site, cause) in pairs() {
+        let of = |word: &Words| word[1] == site && word[4] == cause;
+        let others: Vec<Words> = all.iter().filter(|word| !of(word)).copied().collect();
+        assert!(!is_whole(&others));
+        let first = |word: &Words| of(word) && word[2] == 1;
+        let others: Vec<Words> = all.iter().filter(|word| !first(word)).copied().collect();
+        assert_eq!(is_whole(&others), site != 19);
+    }
+    assert!(!is_whole(&[&all[..], &[[0, 5, 0, 0, 31]]].concat()));
+}
+
 /// The parts make the whole, whatever the document holds.
 #[test]
 fn random_documents() {
