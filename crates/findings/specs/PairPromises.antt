@@ -3,7 +3,8 @@ use Prim.Native.Nat.{ℕ}
 use mathlib.Core.Path.{_≡_}
 use mathlib.Core.List.{List}
 use mathlib.Core.Bool.{Bool, cond}
-use lib.ListN.{length}
+use mathlib.Core.Option.{some}
+use lib.ListN.{length, getElem?}
 use Rattle.reading.specs.Transition.{Transition}
 use Rattle.typing.specs.Names.{eqName}
 use Rattle.findings.specs.Lists.{Placed}
@@ -28,6 +29,10 @@ module _ (s rows prints : List ℕ) (i j : ℕ) (r : Bool) where
 
 pub record SameGuard (s rows : List ℕ) (i j : ℕ) (r : Bool) : Type 0 where
   pub of : (t u : Transition) → RowAt s rows i t → RowAt s rows j u → r ≡ sameGuard t u
+
+-- whether transition i leads to the state of transition j, of so many
+pub record LeadsOn (s rows prints : List ℕ) (count i j : ℕ) (r : Bool) : Type 0 where
+  pub of : (ts : List Transition) → Rows s rows ts → Prints prints ts → count ≡ length ts → (t u : Transition) → getElem? ts i ≡ some t → getElem? ts j ≡ some u → r ≡ eqName (t .next-state) (u .state)
 
 -- warnings or errors of a pair
 unfoldable pub pairNotes : Bool → Placed Transition → Placed Transition → List Note
