@@ -46,7 +46,7 @@ pub mod PrintLaws
 pub mod PairTests
 pub mod PriorityLaws
 pub mod ClashLaws
-pub mod AlikeLaws
+pub mod RivalLaws
 pub mod OrderLaws
 pub mod StateTurns
 pub mod DeadLaws

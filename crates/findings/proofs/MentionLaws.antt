@@ -31,10 +31,10 @@ use Rattle.typing.proofs.EnvLaws.{entry, after-is, fields-head}
 use Rattle.findings.specs.Lists.{each}
 use Rattle.findings.specs.Mentions.{collectNames, guardNames, emitNames, touched, errorTouched, allTouched}
 use Rattle.findings.specs.Scene.{field, Rows}
-use Rattle.findings.specs.Touch.{Touched, Touches, outputNames, setName, setNames, TouchesExpr, TouchesArgs, TouchesOutput, TouchesEmits, TouchesSet, TouchesSets, Mentions, TouchesRow, TouchesRows, TouchesAll}
+use Rattle.findings.specs.Touch.{Touched, Touches, outputNames, setName, setNames, TouchesExpr, TouchesArgs, TouchesOutput, TouchesEmits, TouchesSet, TouchesSets, Mentions, TouchesRow, AllMarked, TouchesRows, TouchesAll}
 use Rattle.findings.proofs.EachLaws.{get-some, drop-get}
 use Rattle.findings.proofs.OptionLaws.{not-given, is-given}
-use Rattle.findings.proofs.TouchLaws.{touched-none, touched-then, touched-as}
+use Rattle.findings.proofs.TouchLaws.{touched-none, touched-then, touched-as, touched-full}
 
 -- a list entry by entry: so many are left, the next at k
 module _ {A : Type 0} (F : Reader A) (f : A → List Name) (s : List ℕ) (at : ℕ) (names m : List ℕ) where
@@ -224,6 +224,13 @@ module _ (s rows names m : List ℕ) where
           let x = get-some ts i (omega arith) in
           let d = drop-get ts i (x .0) (x .1) in
           (v .0 ++ touched (x .0), append-assoc (v .0) (touched (x .0)) (each touched (drop (i + 1) ts)) ∙ ap (λ (l : List Transition). v .0 ++ each touched l) (sym d) ∙ v .1, touched-then s names (v .2) (t .of (x .0) (w .at i (x .0) (x .1))));
+    }
+
+    pub rows-full : {b : Bool} → AllMarked names m′ b → b ≡ true → TouchesRows s rows names m m′ count
+    rows-full f q = record {
+      of = λ ts w c.
+          let v = g .of ts w c in
+          touched-as s names (each touched ts) (v .1) (touched-then s names (v .2) (touched-full s names m′ (each touched (drop i ts)) (f .of q)));
     }
 
     pub rows-done : count ≤ i → TouchesRows s rows names m m′ count

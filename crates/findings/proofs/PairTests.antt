@@ -2,15 +2,13 @@
 use Prim.Native.Nat.{ℕ, suc, _+_, _*_}
 use mathlib.Core.Path.{_≡_, refl, sym, ap, ap₂, _∙_}
 use mathlib.Core.List.{List}
-use mathlib.Core.Bool.{Bool, true, false, _&&_}
+use mathlib.Core.Bool.{Bool, true, false}
 use native.Mathlib.Omega.{arith}
 use lib.ListN.{getD}
 use Rattle.reading.specs.Read.{Reader, ok}
 use Rattle.reading.specs.Skip.{textAt}
 use Rattle.reading.specs.Views.{span}
-use Rattle.reading.specs.Pattern.{encPattern}
 use Rattle.reading.specs.Transition.{Transition}
-use Rattle.reading.proofs.Rules.{no}
 use Rattle.reading.proofs.Formats.{Laws}
 use Rattle.reading.proofs.ListViews.{spanned}
 use Rattle.reading.proofs.Walks.{name-text}
@@ -23,20 +21,12 @@ use Rattle.findings.specs.Pairs.{samePattern, sameGuard, alike}
 use Rattle.findings.specs.Scene.{field, RowAt}
 use Rattle.findings.specs.Prints.{print, printAt, PrintOf}
 use Rattle.findings.specs.Parts.{SameSpan}
-use Rattle.findings.specs.PairPromises.{SameState, LeadsTo, Alike, SameGuard}
-use Rattle.findings.specs.PairSteps.{SamePattern, AlikeBytes}
+use Rattle.findings.specs.PairPromises.{SameState, LeadsTo, SameGuard}
+use Rattle.findings.specs.PairSteps.{SamePattern, Alike}
 
 pub isn't : (b : Bool) → (b ≡ true → ⊥) → false ≡ b
 isn't true h = absurd (h refl)
 isn't false h = refl
-
-and-left : (a b : Bool) → (a && b) ≡ true → a ≡ true
-and-left true b e = refl
-and-left false b e = e
-
-and-right : (a b : Bool) → (a && b) ≡ true → b ≡ true
-and-right true b e = e
-and-right false b e = no (cc)
 
 -- names that are handed out by their places
 pub fields-are : (s : List ℕ) (a b c d : ℕ) {r : Bool} → r ≡ eqName (textAt s a) (textAt s b) → a ≡ c → b ≡ d → r ≡ eqName (textAt s c) (textAt s d)
@@ -85,16 +75,6 @@ module _ (s rows : List ℕ) (i j : ℕ) where
       of = λ t u c d p q. isn't _ (λ e. h (a ∙ p .next-is ∙ ap (print 0) (eqName-eq (t .next-state) (u .state) e) ∙ sym (q .state-is) ∙ sym b));
     }
 
-    pub keys-apart : (t u : Transition) → PrintOf prints i t → PrintOf prints j u → (x ≡ y → ⊥) → x ≡ printAt prints i 2 → y ≡ printAt prints j 2 → false ≡ alike t u
-    unfolding alike samePattern
-    keys-apart t u p q h a b = isn't _ (λ e.
-        let v = eqName-eq (t .state) (u .state) (and-left _ _ e) in
-        let w = eqName-eq (encPattern (t .pattern)) (encPattern (u .pattern)) (and-right (eqName (t .state) (u .state)) _ e) in
-        h (a ∙ p .key-is ∙ ap₂ (λ (n l : List ℕ). print (print 0 n) l) v w ∙ sym (q .key-is) ∙ sym b))
-
-    pub alike-apart : (x ≡ y → ⊥) → x ≡ printAt prints i 2 → y ≡ printAt prints j 2 → Alike s rows prints i j false
-    alike-apart h a b = record { of = λ t u c d p q. keys-apart t u p q h a b }
-
   -- equal bytes
   module _ {a b c d : ℕ} {r : Bool} (p : SameSpan s a b c d r) where
     pub patterns-same : a ≡ field rows i 2 → b ≡ field rows i 3 → c ≡ field rows j 2 → d ≡ field rows j 3 → SamePattern s rows i j r
@@ -110,13 +90,10 @@ module _ (s rows : List ℕ) (i j : ℕ) where
         record { of = λ t u k l. same-items (option-laws top-expr-laws top-expr-solid) (t .guard) (u .guard) q (k .guard-is) (l .guard-is) }
 
   module _ {b : Bool} (e : b ≡ eqName (textAt s (field rows i 1)) (textAt s (field rows j 1))) where
-    pub alike-same : {r : Bool} → b ≡ true → SamePattern s rows i j r → AlikeBytes s rows i j r
+    pub alike-same : {r : Bool} → b ≡ true → SamePattern s rows i j r → Alike s rows i j r
     unfolding alike
     alike-same q p = record { of = λ t u k l. p .of t u k l ∙ rw (← states-bytes e t u k l, q) refl }
 
-    pub alike-other : b ≡ false → AlikeBytes s rows i j false
+    pub alike-other : b ≡ false → Alike s rows i j false
     unfolding alike
     alike-other q = record { of = λ t u k l. rw (← states-bytes e t u k l, q) refl }
-
-  pub alike-bytes : {r : Bool} (prints : List ℕ) → AlikeBytes s rows i j r → Alike s rows prints i j r
-  alike-bytes prints p = record { of = λ t u k l v w. p .of t u k l }

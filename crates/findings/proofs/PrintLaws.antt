@@ -16,8 +16,8 @@ use Rattle.reading.proofs.ListViews.{spanned}
 use Rattle.reading.proofs.Walks.{name-text}
 use Rattle.reading.proofs.PatternLaws.{pattern-laws}
 use Rattle.findings.specs.Scene.{field, RowAt, Rows}
-use Rattle.findings.specs.Prints.{print, PrintOf}
-use Rattle.findings.specs.Parts.{printsOf, PrintPart, PrintedRow}
+use Rattle.findings.specs.Prints.{print, keyOf, PrintOf}
+use Rattle.findings.specs.Parts.{printsOf, PrintPart, Ranked, KeyPrint, PrintedRow}
 use Rattle.findings.specs.PairPromises.{Printed}
 use Rattle.findings.proofs.PlaceLaws.{entry-below}
 
@@ -56,10 +56,13 @@ pub print-text : (s : List ℕ) (k m : ℕ) (x : List ℕ) {r : ℕ} → r ≡ p
 print-text s k m x e q w = rw (q, w) at e
 
 module _ (s rows : List ℕ) (i : ℕ) where
-  pub row-words : {a b c : ℕ} {p p′ : List ℕ} → a ≡ print 0 (textAt s (field rows i 1)) → b ≡ print 0 (textAt s (field rows i 4)) → PrintPart s (field rows i 2) (field rows i 3) a c → p′ ≡ sets p (3 * i) (a ∷ b ∷ c ∷ []) → PrintedRow s rows i p p′
+  pub row-words : {a b c : ℕ} {p p′ : List ℕ} → a ≡ print 0 (textAt s (field rows i 1)) → b ≡ print 0 (textAt s (field rows i 4)) → KeyPrint s rows i a c → p′ ≡ sets p (3 * i) (a ∷ b ∷ c ∷ []) → PrintedRow s rows i p p′
   row-words {a} {b} {c} {p} e f g w =
-      let q : a ∷ b ∷ c ∷ [] ≡ printsOf s rows i = cc (g .is, ap (λ (h : ℕ). print h (span s (field rows i 2) (field rows i 3))) e) in
-      record { words = w ∙ ap (sets p (3 * i)) q; each = g .each }
+      let q : a ∷ b ∷ c ∷ [] ≡ printsOf s rows i c = cc in
+      record { key = c; words = w ∙ ap (sets p (3 * i)) q; keyed = rw e at g }
+
+  pub key-ranked : {state h k c : ℕ} → PrintPart s (field rows i 2) (field rows i 3) state h → Ranked s k h c → k ≡ field rows i 7 → KeyPrint s rows i state c
+  key-ranked p r e = record { ranks = rw (p .is, e) at r; each = p .each }
 
   -- each word where it was put
   module _ (p : List ℕ) (h : 3 * i + 2 < length p) (a b c : ℕ) where
@@ -89,17 +92,23 @@ module _ (s rows : List ℕ) (i : ℕ) where
         getD-set-other (set (set p (3 * i) a) (suc (3 * i)) b) (suc (suc (3 * i))) k c 0 x ∙ getD-set-other (set p (3 * i) a) (suc (3 * i)) k b 0 y ∙ getD-set-other p (3 * i) k a 0 z
 
   -- the row's own words are the prints of its transition
+  row-key : (t : Transition) {c : ℕ} → RowAt s rows i t → KeyPrint s rows i (print 0 (textAt s (field rows i 1))) c → c ≡ keyOf t
+  unfolding keyOf
+  row-key t r w =
+      let x = name-text s (field rows i 1) (t .state) (field rows i 2) (r .state-is) in
+      let z = spanned pattern-laws s (w .each) (field rows i 2) (t .pattern) (field rows i 3) (r .pattern-is) .0 in
+      w .ranks .of (t .priority) (r .priority-is) ∙ rw (x, z)
+
   row-printed : {p p′ : List ℕ} (t : Transition) → 768 ≤ length p → i < 256 → RowAt s rows i t → PrintedRow s rows i p p′ → PrintOf p′ i t
   row-printed {p} {p′} t h l r w =
       let b : 3 * i + 2 < length p = omega arith in
       let x = name-text s (field rows i 1) (t .state) (field rows i 2) (r .state-is) in
       let y = name-text s (field rows i 4) (t .next-state) (field rows i 5) (r .next-state-is) in
-      let z = spanned pattern-laws s (w .each) (field rows i 2) (t .pattern) (field rows i 3) (r .pattern-is) .0 in
       let u = w .words in
       record {
         state-is = rw (u, put-first p b _ _ _, x);
         next-is = rw (u, put-second p b _ _ _, y);
-        key-is = rw (u, put-third p b _ _ _, x, z);
+        key-is = rw (u, put-third p b _ _ _) (row-key t r (w .keyed));
       }
 
 -- the transitions before number i have their prints
@@ -124,8 +133,8 @@ module _ (s rows : List ℕ) where
 
   pub prints-more : {i count : ℕ} {prints now now′ : List ℕ} → PrintsSoFar s rows prints i now → count ≤ 255 → i < count → PrintedRow s rows i now now′ → PrintsSoFar s rows prints (i + 1) now′
   prints-more {i} {count} {prints} {now} {now′} g m l w = record {
-    size = ap length (w .words) ∙ length-sets now (3 * i) (printsOf s rows i) ∙ g .size;
-    room = let u = ap length (w .words) ∙ length-sets now (3 * i) (printsOf s rows i) in let v = g .room in omega arith;
+    size = ap length (w .words) ∙ length-sets now (3 * i) (printsOf s rows i (w .key)) ∙ g .size;
+    room = let u = ap length (w .words) ∙ length-sets now (3 * i) (printsOf s rows i (w .key)) in let v = g .room in omega arith;
     at = λ ts r k t d e. by ts r k t d e (ℕ-discrete k i);
   }
     where
@@ -138,3 +147,11 @@ module _ (s rows : List ℕ) where
   prints-done {i} g h = record {
     of = λ ts r e. record { at = λ k t q. let l = entry-below ts k t q in g .at ts r k t (omega arith) q };
   }
+
+-- a mark more keeps what was marked
+pub set-seen : (seen : List ℕ) (w k : ℕ) → w < length seen → (k ≢ w → getD seen k 0 ≡ 1) → getD (set seen w 1) k 0 ≡ 1
+set-seen seen w k h m = by (ℕ-discrete k w)
+  where
+    by : Dec (k ≡ w) → getD (set seen w 1) k 0 ≡ 1
+    by (yes e) = rw e (getD-set-same seen w 1 0 h)
+    by (no d) = getD-set-other seen w k 1 0 d ∙ m d

@@ -1,6 +1,6 @@
 -- Priorities: null is none, and anything else is a number.
-use Prim.Native.Nat.{ℕ}
-use mathlib.Core.Path.{_≡_, refl, sym, ap₂, _∙_}
+use Prim.Native.Nat.{ℕ, _+_, _*_, _%_}
+use mathlib.Core.Path.{_≡_, refl, sym, ap, ap₂, _∙_}
 use mathlib.Core.List.{List}
 use mathlib.Core.Bool.{Bool, true, false}
 use mathlib.Core.Option.{Option, none, some}
@@ -22,6 +22,8 @@ use Rattle.reading.proofs.Answers.{num, out}
 use Rattle.reading.proofs.ListViews.{option-at}
 use Rattle.findings.specs.Pairs.{equalPriority, noPriority}
 use Rattle.findings.specs.Scene.{field, Reads}
+use Rattle.findings.specs.Prints.{ranked}
+use Rattle.findings.specs.Parts.{Ranked}
 use Rattle.findings.specs.PairSteps.{BothEqual, BothBare, PriorityAt, EqualPriority, NoPriority}
 
 none-equal : (b : Option ℕ) → false ≡ equalPriority none b
@@ -74,6 +76,20 @@ module _ (s : List ℕ) where
 
     pub priority-none : {f : Fault} {p : ℕ} (r : ℕ) → a ≡ Refused f p → PriorityAt s at r
     priority-none r q = record { of = λ w n h. no (let x = out _ e q in cc) }
+
+  -- a print with a priority
+  module _ {at h : ℕ} {b : Bool} (e : b ≡ null at) where
+    pub rank-none : b ≡ true → Ranked s at h h
+    unfolding ranked
+    rank-none q = record { of = λ a g. rw (null-is (sym e ∙ q) g) }
+
+    pub rank-given : {v : ℕ} → b ≡ false → PriorityAt s at v → Ranked s at h ((h * 31 + v % 4294967296 + 1) % 4294967296)
+    unfolding ranked
+    rank-given {v} q p = record {
+      of = λ a g.
+          let u = given-is (sym e ∙ q) g in
+          rw (u .1) (ap (λ (x : ℕ). (h * 31 + x % 4294967296 + 1) % 4294967296) (p .of (u .0) (g .end) (u .2)));
+    }
 
   module _ {p q : ℕ} where
     pub equal-first : {b : Bool} → b ≡ null p → b ≡ true → EqualPriority s p q false

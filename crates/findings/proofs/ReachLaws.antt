@@ -13,9 +13,13 @@ use Rattle.reading.specs.Text.{Name}
 use Rattle.reading.specs.Skip.{textAt}
 use Rattle.reading.proofs.Walks.{name-text}
 use Rattle.typing.specs.Names.{eqName}
-use Rattle.findings.specs.Scene.{field}
-use Rattle.findings.specs.Reaching.{Taken, free, Queued, Stepped, stays, takes, Swept, Chained, first, next, Walked, BeginsAt}
+use Rattle.typing.proofs.NameLaws.{eqName-eq}
+use Rattle.reading.specs.Transition.{Transition}
+use Rattle.findings.specs.Scene.{field, RowAt}
+use Rattle.findings.specs.PairPromises.{LeadsTo, LeadsOn}
+use Rattle.findings.specs.Reaching.{Taken, free, Queued, Stepped, stays, takes, Swept, Chained, first, next, Walked, Followed, BeginsAt}
 use Rattle.findings.proofs.TouchLaws.{last-or-before}
+use Rattle.findings.proofs.PlaceLaws.{entry-at}
 
 same-or-not : (a b : ℕ) → (a ≡ b) ⊎ (a ≡ b → ⊥)
 same-or-not a b = go (eqb a b) refl
@@ -239,3 +243,42 @@ module _ (T : ℕ → Bool → Type 0) (U : ℕ → ℕ → Bool → Type 0) (co
           subst (λ (n : ℕ). Taken m j ⊎ U n j false) (r .2) (w .done (r .0) j (omega (arith, r .1)) b);
       sound = w .sound;
     }
+
+-- the last one that was followed
+module _ (U : ℕ → ℕ → Bool → Type 0) (count : ℕ) where
+  pub followed-none : {m q : List ℕ} {t : ℕ} → Queued count m q t → Followed U count 255 m
+  followed-none g = record { of = λ h j l. let f = g .few in absurd (omega arith) }
+
+  pub followed-more : {p : ℕ} {m q m′ q′ : List ℕ} {t t′ : ℕ} → Swept (U p) count m q t count m′ q′ t′ → Followed U count p m′
+  followed-more x = record { of = λ h j l. x .new j l }
+
+module _ (s rows prints : List ℕ) (count p : ℕ) where
+  -- the code's answer
+  module _ (i : ℕ) (m q : List ℕ) (t : ℕ) {b : Bool} (y : LeadsTo s rows prints p i b) where
+    leads-all : LeadsOn s rows prints count p i b
+    leads-all = record { of = λ ts R P c t u g h. y .of t u (R .at p t g) (R .at i u h) (P .at p t g) (P .at i u h) }
+
+    pub lead-no : b ≡ false → Stepped (LeadsOn s rows prints count p) i m q t m q t
+    lead-no = step-no (LeadsOn s rows prints count p) i m q t leads-all
+
+    pub lead-yes : {m′ q′ : List ℕ} {t′ : ℕ} → b ≡ true → getD m i 0 ≡ 0 → m′ ≡ set m i 1 → q′ ≡ set q t i → t′ ≡ t + 1 → Stepped (LeadsOn s rows prints count p) i m q t m′ q′ t′
+    lead-yes = step-yes (LeadsOn s rows prints count p) i m q t leads-all
+
+  next-text : (k : ℕ) (t : Transition) → RowAt s rows k t → textAt s (field rows k 4) ≡ t .next-state
+  next-text k t a = name-text s (field rows k 4) (t .next-state) (field rows k 5) (a .next-state-is)
+
+  module _ {last : ℕ} {b : Bool} (e : b ≡ eqName (textAt s (field rows last 4)) (textAt s (field rows p 4))) (h : b ≡ true) (l : last < count) where
+    leads-same : (j : ℕ) → LeadsOn s rows prints count last j false → LeadsOn s rows prints count p j false
+    leads-same j y = record {
+      of = λ ts R P c t u f g.
+          let v = entry-at ts last (omega arith) in
+          let z : v .item .next-state ≡ t .next-state = sym (next-text last (v .item) (R .at last (v .item) (v .is))) ∙ eqName-eq _ _ (sym e ∙ h) ∙ next-text p t (R .at p t f) in
+          y .of ts R P c (v .item) u (v .is) g ∙ ap (λ (n : Name). eqName n (u .state)) z;
+    }
+
+    pub sweep-same : {m q : List ℕ} {t : ℕ} → Queued count m q t → Followed (LeadsOn s rows prints count) count last m → Swept (LeadsOn s rows prints count p) count m q t count m q t
+    sweep-same {m} g w = record { queued = g; more = omega arith; same-queue = λ k d. refl; kept = λ j x. x; new = λ j d. go j (w .of l j d); only = λ j x. inl x }
+      where
+        go : (j : ℕ) → Taken m j ⊎ LeadsOn s rows prints count last j false → Taken m j ⊎ LeadsOn s rows prints count p j false
+        go j (inl z) = inl z
+        go j (inr y) = inr (leads-same j y)

@@ -5,7 +5,7 @@ use mathlib.Core.List.{List, [], _∷_, _++_}
 use mathlib.Core.Bool.{true, false}
 use native.Mathlib.Omega.{arith}
 use lib.ListN.{length, getD, length-append}
-use lib.Seq.{getD-append-add}
+use lib.Seq.{getD-append-add, paste}
 use lib.Dec.{ltb}
 use borrow.Author.Tests.{lt-ltb, le-ltb}
 use Rattle.reading.specs.Read.{Read, ok, refused}
@@ -19,40 +19,60 @@ use Rattle.reading.proofs.Rules.{no}
 use Rattle.reading.proofs.Views.{document-at}
 use Rattle.findings.specs.Finding.{Finding, words}
 use Rattle.findings.specs.Findings.{allErrors, allWarnings, findings}
-use Rattle.findings.specs.Sheet.{Written}
-use Rattle.findings.specs.Walks.{WalksAll, Counted, AllWritten, Replies, Lines, WarningLine}
+use Rattle.findings.specs.Sheet.{put, Written}
+use Rattle.findings.specs.Walks.{WalksAll, Walked, PutsErrors, PutsWarnings, Replies, Lines, WarningLine}
 use Rattle.findings.specs.Reply.{tooMany, replyTo, sheetOf, lineOf, lineTo}
 use Rattle.findings.specs.declared.reply.Reply.{Reply}
 use Rattle.findings.specs.declared.reply.Reply.the-variants.{Counts, Refused, Short}
 use Rattle.findings.specs.declared.reply.Line.{Line}
 use Rattle.findings.specs.declared.reply.Line.the-variants as line
-use Rattle.findings.proofs.SheetLaws.{then, put-whole, none, put-kth}
+use Rattle.findings.proofs.SheetLaws.{put-append, put-whole, copied, none, put-kth}
 
-pub counted : (s : List ℕ) {e e′ w w′ : List ℕ} {a b : ℕ} → WalksAll s e 0 0 a e′ w 0 0 b w′ → Counted s a b
-counted s t = record {
-  of = λ x n g.
-      let u = t .of x n (document-at s x n g) in
-      let p = u .errors-are .count in
-      let q = u .warnings-are .count in
-      (omega arith, omega arith);
-}
+-- written by another walk, and copied
+module _ (s kept o o′ : List ℕ) {a : ℕ} where
+  pub errors-walked : {p p′ : List ℕ} {b c : ℕ} → WalksAll s o 0 0 c o′ p 0 0 b p′ → PutsErrors s kept a o o′
+  errors-walked t = record { of = λ x n g q w. t .of x n (document-at s x n g) .errors-are .buffer }
 
-pub filled : (s o o₁ o₂ : List ℕ) {p p′ q q′ : List ℕ} {a b₁ a₂ c d : ℕ} → WalksAll s o 0 0 c o₁ p 0 0 b₁ p′ → WalksAll s q 0 0 a₂ q′ o₁ 0 a d o₂ → AllWritten s o a o₂
-unfolding findings
-filled s o o₁ o₂ {a} {c} {d} u v = record {
-  of = λ x n g e.
-      let i = document-at s x n g in
-      let first = u .of x n i .errors-are in
-      let second = v .of x n i .warnings-are in
-      let m = first .count in
-      let z : a ≡ c = omega arith in
-      then first (subst (λ (y : ℕ). Written o₁ 0 y (allWarnings x) d o₂) z second) .buffer;
-}
+  pub errors-copied : 5 * a ≤ length kept → 5 * a ≤ length o → o′ ≡ paste o 0 kept (5 * a) → PutsErrors s kept a o o′
+  errors-copied h l e = record {
+    of = λ x n g q w.
+        let c = w .count in
+        e ∙ copied (allErrors x) q kept o 0 (5 * a) 0 (w .buffer) (omega arith) h refl (omega arith);
+  }
 
-module _ (s : List ℕ) {a b : ℕ} (t : Counted s a b) where
-  both-counted : (x : Ir) (n : ℕ) → readDocument s ≡ ok x n → a + b ≡ length (findings x)
-  unfolding findings
-  both-counted x n g = let u = t .of x n g in omega (arith, u .0, u .1, length-append (allErrors x) (allWarnings x))
+  pub warnings-walked : {p p′ : List ℕ} {b c d : ℕ} → WalksAll s p 0 0 c p′ o 0 a d o′ → PutsWarnings s kept a b o o′
+  warnings-walked t = record { of = λ x n g q w. t .of x n (document-at s x n g) .warnings-are .buffer }
+
+  pub warnings-copied : {b : ℕ} → 5 * b ≤ length kept → 5 * a + 5 * b ≤ length o → o′ ≡ paste o (5 * a) kept (5 * b) → PutsWarnings s kept a b o o′
+  warnings-copied {b} h l e = record {
+    of = λ x n g q w.
+        let c = w .count in
+        e ∙ copied (allWarnings x) q kept o a (5 * b) (5 * a) (w .buffer) (omega arith) h refl l;
+  }
+
+-- from the walk that kept both
+module _ (s : List ℕ) {e e′ w w′ : List ℕ} {a b : ℕ} (t : WalksAll s e 0 0 a e′ w 0 0 b w′) where
+  module _ (x : Ir) (n : ℕ) (g : readDocument s ≡ ok x n) where
+    walked : Walked s e 0 0 a e′ w 0 0 b w′ x
+    walked = t .of x n (document-at s x n g)
+
+    both-counted : a + b ≡ length (findings x)
+    unfolding findings
+    both-counted =
+        let p = walked .errors-are .count in
+        let q = walked .warnings-are .count in
+        omega (arith, length-append (allErrors x) (allWarnings x))
+
+    both-put : {o o₁ o₂ : List ℕ} → PutsErrors s e′ a o o₁ → PutsWarnings s w′ a b o₁ o₂ → o₂ ≡ put o 0 0 (findings x)
+    unfolding findings
+    both-put {o} {o₁} {o₂} u v =
+        let p = walked .errors-are in
+        let m = p .count in
+        let z : a ≡ 0 + length (allErrors x) = omega arith in
+        v .of x n g w (walked .warnings-are)
+        ∙ ap (λ (y : List ℕ). put y 0 a (allWarnings x)) (u .of x n g e p)
+        ∙ ap (λ (y : ℕ). put (put o 0 0 (allErrors x)) 0 y (allWarnings x)) z
+        ∙ put-append o 0 0 (allErrors x) (allWarnings x)
 
   pub reply-short : (o : List ℕ) → length o < 5 * (a + b) → Replies s o (Short (a + b)) o
   unfolding replyTo sheetOf tooMany
@@ -63,14 +83,17 @@ module _ (s : List ℕ) {a b : ℕ} (t : Counted s a b) where
         (rw l (ap Short c), rw l);
   }
 
-  pub reply-written : (o o′ : List ℕ) → 5 * (a + b) ≤ length o → AllWritten s o a o′ → Replies s o (Counts a b) o′
+  pub reply-written : (o o₁ o₂ : List ℕ) → 5 * (a + b) ≤ length o → PutsErrors s e′ a o o₁ → PutsWarnings s w′ a b o₁ o₂ → Replies s o (Counts a b) o₂
   unfolding replyTo sheetOf tooMany
-  reply-written o o′ h f = record {
+  reply-written o o₁ o₂ h u v = record {
     of = λ x n g.
-        let k = t .of x n g in
         let c = both-counted x n g in
+        let p = walked x n g .errors-are .count in
+        let q = walked x n g .warnings-are .count in
+        let i : a ≡ length (allErrors x) = omega arith in
+        let j : b ≡ length (allWarnings x) = omega arith in
         let l : ltb (length o) (5 * length (findings x)) ≡ false = le-ltb (length o) (5 * length (findings x)) (omega arith) in
-        (rw (l, k .0, k .1), rw l (f .of x n g (k .0) ∙ put-whole (findings x) o (omega arith)));
+        (rw (l, i, j), rw l (both-put x n g u v ∙ put-whole (findings x) o (omega arith)));
   }
 
 -- the document's verdict

@@ -5,8 +5,8 @@ use mathlib.Core.List.{List, [], _∷_, _++_, append-assoc, append-nil}
 use mathlib.Core.Bool.{Bool, true, false, cond}
 use native.Mathlib.Nat.{add-zero}
 use native.Mathlib.Omega.{arith}
-use lib.ListN.{length, getD, drop, length-append, length-drop, drop-of-length-le}
-use lib.Seq.{sets, sets-eq, length-sets, take-at, drop-append-add, drop-drop}
+use lib.ListN.{length, getD, set, take, drop, length-set, length-append, length-drop, drop-of-length-le, take-append-drop}
+use lib.Seq.{sets, sets-eq, length-sets, take-at, drop-append-add, drop-drop, paste, paste-zero, paste-suc, length-take-le}
 use lib.Dec.{leb}
 use borrow.Author.Tests.{le-leb, lt-leb}
 use Rattle.findings.specs.Finding.{note, Finding, inModule, words}
@@ -131,6 +131,51 @@ put-front (f ∷ fs) p q n e h =
 -- whole: from the front, and what is past stays
 pub put-whole : (fs : List Finding) (o : List ℕ) → 5 * length fs ≤ length o → put o 0 0 fs ≡ flat fs ++ drop (5 * length fs) o
 put-whole fs o h = put-front fs [] o 0 refl h
+
+-- the first j words of kept are copied into o, from word w on
+pub record Copying (kept : List ℕ) (o : List ℕ) (w len j : ℕ) (now : List ℕ) : Type 0 where
+  pub is : now ≡ paste o w kept j
+  pub size : length now ≡ length o
+  pub most : j ≤ len
+
+module _ (kept o : List ℕ) (w len : ℕ) where
+  pub copy-start : Copying kept o w len 0 o
+  copy-start = record { is = paste-zero o w kept; size = refl; most = omega arith }
+
+  module _ {j : ℕ} {now : List ℕ} (g : Copying kept o w len j now) where
+    pub copy-more : j < len → len ≤ length kept → w + len ≤ length o → Copying kept o w len (j + 1) (set now (w + j) (getD kept j 0))
+    copy-more h k m =
+        let e : j + 1 ≡ suc j = omega arith in
+        record {
+          is = ap (λ (x : List ℕ). set x (w + j) (getD kept j 0)) (g .is) ∙ paste-suc o w kept j 0 (omega arith) (omega arith) ∙ ap (paste o w kept) (sym e);
+          size = length-set now (w + j) (getD kept j 0) ∙ g .size;
+          most = omega arith;
+        }
+
+    pub copy-done : len ≤ j → now ≡ paste o w kept len
+    copy-done h = let m = g .most in let e : j ≡ len = omega arith in g .is ∙ ap (paste o w kept) e
+
+pub length-flat : (fs : List Finding) → length (flat fs) ≡ 5 * length fs
+unfolding flat
+length-flat [] = refl
+length-flat (f ∷ fs) = omega (arith, length-append (words f) (flat fs), words-length f, length-flat fs)
+
+-- the words of findings that were kept whole, copied after those of n others
+pub copied : (fs : List Finding) (p kept o : List ℕ) (n len w : ℕ) → kept ≡ put p 0 0 fs → len ≡ 5 * length fs → len ≤ length kept → w ≡ 5 * n → w + len ≤ length o
+    → paste o w kept len ≡ put o 0 n fs
+copied fs p kept o n len w e l h d m =
+    let z : 5 * length fs ≤ length p = omega (arith, ap length e, length-put p 0 0 fs) in
+    let k : take len kept ≡ flat fs =
+    ap (take len) (e ∙ put-whole fs p z)
+    ∙ take-at (flat fs) (drop (5 * length fs) p) len (omega (arith, length-flat fs))
+    in
+    let u : w ≤ length o = omega arith in
+    let v : length (take w o) ≡ 5 * n = length-take-le w o u ∙ d in
+    ap (λ (x : List ℕ). take w o ++ x ++ drop (w + len) o) k
+    ∙ ap (λ (x : List ℕ). take w o ++ flat fs ++ x) (sym (drop-drop len w o))
+    ∙ ap (λ (x : ℕ). take w o ++ flat fs ++ drop x (drop w o)) l
+    ∙ sym (put-front fs (take w o) (drop w o) n v (omega (arith, length-drop w o)))
+    ∙ ap (λ (x : List ℕ). put x 0 n fs) (take-append-drop w o)
 
 -- one: five words from number k on hold the finding number k
 put-after : (fs : List Finding) (o : List ℕ) (k n : ℕ) → length o ≡ 5 → k < n → put o k n fs ≡ o

@@ -7,7 +7,6 @@ use mathlib.Core.Option.{none, some}
 use native.Mathlib.Omega.{arith}
 use native.Mathlib.Numerals.{add-one}
 use lib.ListN.{length, drop, getD, getElem?, replicate, drop-of-length-le}
-use borrow.Author.Tests.{not-true}
 use Rattle.reading.specs.Text.{Name}
 use Rattle.reading.specs.Skip.{textAt}
 use Rattle.reading.specs.Transition.{Transition}
@@ -22,14 +21,14 @@ use Rattle.findings.specs.Scene.{field, Rows}
 use Rattle.findings.specs.Prints.{printAt, Prints}
 use Rattle.findings.specs.Promises.{at-place}
 use Rattle.findings.specs.PairPromises.{pairNotes, NotesPair, NotesPairs}
-use Rattle.findings.specs.PairSteps.{hasPair, NoPairs}
+use Rattle.findings.specs.PairSteps.{NoPairs}
 use Rattle.findings.specs.StateSteps.{undone, nextName, stateIn, NextState, StateMarked, inState, NotesLater, NotesRow, NotesOfState}
 use Rattle.findings.proofs.NoteLaws.{note-nothing, note-as}
 use Rattle.findings.proofs.EachLaws.{Left, left-all, left-more, left-none, eachFrom, each-turn, each-done}
 use Rattle.findings.proofs.PlaceLaws.{entry-at, entry-past, drop-entry}
-use Rattle.findings.proofs.PairTests.{states-bytes, states-differ, keys-apart}
-use Rattle.findings.proofs.ClashLaws.{pair-none}
-use Rattle.findings.proofs.AlikeLaws.{each-none, by-state-none}
+use Rattle.findings.proofs.PairTests.{states-bytes, states-differ}
+use Rattle.findings.proofs.ClashLaws.{rival-none}
+use Rattle.findings.proofs.RivalLaws.{keys-apart, each-none, by-state-none}
 
 each-as : {A B : Type 0} (f g : A → List B) (xs : List A) → ((x : A) → f x ≡ g x) → each f xs ≡ each g xs
 each-as f g [] h = refl
@@ -45,19 +44,19 @@ module _ (s : List ℕ) (owner : ℕ) (o : List ℕ) (skip n : ℕ) (rows prints
     later-start = record { of = λ ts R P e t g. left-all owner o skip n _ }
 
     module _ {j m : ℕ} {out : List ℕ} (w : LaterLeft j m out) where
-      pub later-more : {r : ℕ} {o′ : List ℕ} {m′ : ℕ} {out′ : List ℕ} → j < count → NotesPair s owner out skip m r o′ rows prints i j warn → m′ ≡ r → out′ ≡ o′ → LaterLeft (j + 1) m′ out′
+      pub later-more : {r : ℕ} {o′ : List ℕ} {m′ : ℕ} {out′ : List ℕ} → j < count → NotesPair s owner out skip m r o′ rows i j warn → m′ ≡ r → out′ ≡ o′ → LaterLeft (j + 1) m′ out′
       later-more h p x y = rw (x, y) (record {
         of = λ ts R P e t g.
             let u = entry-at ts j (omega arith) in
-            each-turn (pairNotes warn (at-place i t)) j ts (u .item) (u .is) (w .of ts R P e t g) (p .of t (u .item) (R .at i t g) (R .at j (u .item) (u .is)) (P .at i t g) (P .at j (u .item) (u .is)));
+            each-turn (pairNotes warn (at-place i t)) j ts (u .item) (u .is) (w .of ts R P e t g) (p .of t (u .item) (R .at i t g) (R .at j (u .item) (u .is)));
       })
 
       pub later-skip : {m′ : ℕ} {out′ : List ℕ} → j < count → (printAt prints j 2 ≡ printAt prints i 2 → ⊥) → m′ ≡ m → out′ ≡ out → LaterLeft (j + 1) m′ out′
       later-skip h d x y = rw (x, y) (record {
         of = λ ts R P e t g.
             let u = entry-at ts j (omega arith) in
-            let a = keys-apart s rows i j prints t (u .item) (P .at i t g) (P .at j (u .item) (u .is)) (λ q. d (sym q)) refl refl in
-            each-turn (pairNotes warn (at-place i t)) j ts (u .item) (u .is) (w .of ts R P e t g) (note-as owner _ (pair-none warn (at-place i t) (at-place j (u .item)) a) (note-nothing owner out skip m));
+            let a = keys-apart prints i j t (u .item) (P .at i t g) (P .at j (u .item) (u .is)) d in
+            each-turn (pairNotes warn (at-place i t)) j ts (u .item) (u .is) (w .of ts R P e t g) (note-as owner _ (rival-none warn (at-place i t) (at-place j (u .item)) a) (note-nothing owner out skip m));
       })
 
       pub later-done : count ≤ j → NotesLater s owner o skip n m out rows prints count warn i
@@ -199,8 +198,8 @@ module _ (s : List ℕ) (owner : ℕ) (o : List ℕ) (skip n : ℕ) (rows prints
         left-none owner o skip n (byState (pairNotes warn) ts) (w .of ts R P e) (ap (λ (k : ℕ). each (group ts) (ordered k (undone marks 0 ts))) z);
   }
 
-  -- where no two are alike
-  pub pairs-nothing : {e : Bool} → NoPairs s rows prints count e → e ≡ true → NotesPairs s owner o skip n n o rows prints count warn
+  -- where no two have one key
+  pub pairs-nothing : {e : Bool} → NoPairs prints count e → e ≡ true → NotesPairs s owner o skip n n o rows prints count warn
   pairs-nothing p h = record {
-    of = λ ts R P e. note-as owner _ (sym (by-state-none warn ts (not-true (hasPair ts) (sym (p .of ts R P e) ∙ h)))) (note-nothing owner o skip n);
+    of = λ ts R P e. note-as owner _ (sym (by-state-none warn ts (p .of ts P e h))) (note-nothing owner o skip n);
   }

@@ -41,7 +41,7 @@ use Rattle.typing.proofs.EnvLaws.{entry, after-is}
 use Rattle.typing.proofs.TypeLaws.{fields-are}
 use Rattle.findings.specs.Lists.{each}
 use Rattle.findings.specs.Mentions.{soleName, collectNames}
-use Rattle.findings.specs.Touch.{varAt, Touched, VarTouched, Touches, TouchesExpr, TouchesUnary, TouchesBinary}
+use Rattle.findings.specs.Touch.{varAt, Touched, AllMarked, VarTouched, Touches, TouchesExpr, TouchesUnary, TouchesBinary}
 
 pub member-append : (w : Name) (xs ys : List Name) → member w (xs ++ ys) ≡ pick (member w xs) true (member w ys)
 unfolding member pick
@@ -80,14 +80,35 @@ module _ (s names : List ℕ) where
   pub touched-as : {m m′ : List ℕ} {xs : List Name} (ys : List Name) → xs ≡ ys → Touched s names m xs m′ → Touched s names m ys m′
   touched-as {m} {m′} ys e p = subst (λ (x : List Name). Touched s names m x m′) e p
 
-pub free-past : (marks : List ℕ) (k : ℕ) → length marks ≤ k → true ≡ eqb (getD marks k 0) 0
-free-past marks k h = sym (eq-eqb (getD marks k 0) 0 (List·getD-eq-default marks 0 h))
-
--- one variable
+-- where every variable is marked, names mark nothing
 cond-same : (b : Bool) (x : ℕ) → x ≡ 1 → x ≡ cond b 1 x
 cond-same true x e = e
 cond-same false x e = refl
 
+pub touched-full : (s names m : List ℕ) (ns : List Name) → ((k : ℕ) → k < length names / 2 → getD m k 0 ≡ 1) → Touched s names m ns m
+touched-full s names m ns f = record { size = refl; at = λ k h l. cond-same (member (varAt s names k) ns) (getD m k 0) (f k h) }
+
+module _ (names m : List ℕ) where
+  pub some-free : AllMarked names m false
+  some-free = record { of = λ q. no (cc) }
+
+  pub marked-start : (k : ℕ) → k < 0 → getD m k 0 ≡ 1
+  marked-start k h = absurd (omega arith)
+
+  pub marked-more : {i : ℕ} → ((k : ℕ) → k < i → getD m k 0 ≡ 1) → getD m i 0 ≡ 1 → (k : ℕ) → k < i + 1 → getD m k 0 ≡ 1
+  marked-more {i} f e k h = go (eqb k i) refl
+    where
+      go : (b : Bool) → eqb k i ≡ b → getD m k 0 ≡ 1
+      go true q = ap (λ (j : ℕ). getD m j 0) (eqb-true k i q) ∙ e
+      go false q = let d = eqb-false k i q in f k (omega arith)
+
+  pub all-marked : {i : ℕ} → ((k : ℕ) → k < i → getD m k 0 ≡ 1) → length names / 2 ≤ i → AllMarked names m true
+  all-marked f h = record { of = λ q k l. f k (omega arith) }
+
+pub free-past : (marks : List ℕ) (k : ℕ) → length marks ≤ k → true ≡ eqb (getD marks k 0) 0
+free-past marks k h = sym (eq-eqb (getD marks k 0) 0 (List·getD-eq-default marks 0 h))
+
+-- one variable
 module _ (s : List ℕ) (key : ℕ) (w : Name) (k : ℕ) (m : List ℕ) where
   pub var-past : length m ≤ k → VarTouched s key w k m m
   var-past h = record { size = refl; here = λ l. absurd (omega arith); other = λ j e. refl }

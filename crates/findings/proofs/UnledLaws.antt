@@ -41,7 +41,7 @@ use Rattle.findings.specs.Noting.{Noted}
 use Rattle.findings.specs.Scene.{Reads, field, Rows, StatesAt, states-here, states-none}
 use Rattle.findings.specs.Prints.{Prints}
 use Rattle.findings.specs.Promises.{at-place}
-use Rattle.findings.specs.PairPromises.{LeadsTo}
+use Rattle.findings.specs.PairPromises.{LeadsOn}
 use Rattle.findings.specs.WarningPromises.{NotesUnreachable}
 use Rattle.findings.specs.Reaching.{Taken, Chained, first, next, Walked, BeginsAt, hitBy, ledTo, IsHit, IsLed, Moves, unledNote, NotesUnled, NotesUnledAt, NotesUnledStates}
 use Rattle.findings.proofs.NoteLaws.{note-nothing, note-as}
@@ -83,7 +83,7 @@ not-true true e = absurd (true≢false (sym e))
 not-true false e = refl
 
 -- the walk's marks, for whatever transitions stand in the rows
-module _ (s rows prints : List ℕ) (w : Name) (count : ℕ) (m : List ℕ) (g : Walked (BeginsAt s rows w) (LeadsTo s rows prints) count m) (ts : List Transition) (r : Rows s rows ts) (p : Prints prints ts) (c : count ≡ length ts) where
+module _ (s rows prints : List ℕ) (w : Name) (count : ℕ) (m : List ℕ) (g : Walked (BeginsAt s rows w) (LeadsOn s rows prints count) count m) (ts : List Transition) (r : Rows s rows ts) (p : Prints prints ts) (c : count ≡ length ts) where
   abbrev Led : Name → Type 0
   Led n = Leads demand.StartsAt leadsTo ts w n
 
@@ -125,22 +125,22 @@ module _ (s rows prints : List ℕ) (w : Name) (count : ℕ) (m : List ℕ) (g :
       from-first q (inl x) = taken x
       from-first q (inr x) = absurd (true≢false (sym (x .of a (r .at j a (here .2)) ∙ ap (λ (y : Name). eqName y w) (t ∙ sym q) ∙ eqName-refl w)))
 
-      from-taken : (i : ℕ) (u : Transition) → getElem? ts i ≡ some u → u .next-state ≡ n → Taken m j ⊎ LeadsTo s rows prints i j false → ledTo m ts w (leadsTo a) ≡ true
+      from-taken : (i : ℕ) (u : Transition) → getElem? ts i ≡ some u → u .next-state ≡ n → Taken m j ⊎ LeadsOn s rows prints count i j false → ledTo m ts w (leadsTo a) ≡ true
       from-taken i u q z (inl x) = taken x
-      from-taken i u q z (inr x) = absurd (true≢false (sym (x .of u a (r .at i u q) (r .at j a (here .2)) (p .at i u q) (p .at j a (here .2)) ∙ ap (λ (y : Name). eqName y (a .state)) (z ∙ sym t) ∙ eqName-refl (a .state))))
+      from-taken i u q z (inr x) = absurd (true≢false (sym (x .of ts r p c u a q (here .2) ∙ ap (λ (y : Name). eqName y (a .state)) (z ∙ sym t) ∙ eqName-refl (a .state))))
 
       go : (w ≡ n) ⊎ ((i : ℕ) × (u : Transition) × (getElem? ts i ≡ some u) × Taken m i × (u .next-state ≡ n)) → ledTo m ts w (leadsTo a) ≡ true
       go (inl q) = from-first q (g .start j inside)
       go (inr (i, u, q, x, z)) = from-taken i u q z (g .closed i j (omega (arith, get-below ts i u q)) inside x)
 
   -- a chain leads to what a taken transition leads to
-  chain : {i : ℕ} (u : Transition) → getElem? ts i ≡ some u → Chained (BeginsAt s rows w) (LeadsTo s rows prints) count i → Led (u .next-state)
+  chain : {i : ℕ} (u : Transition) → getElem? ts i ≡ some u → Chained (BeginsAt s rows w) (LeadsOn s rows prints count) count i → Led (u .next-state)
   chain {i} u e (first x) =
       let q : u .state ≡ w = eqName-eq (u .state) w (sym (x .of u (r .at i u e))) in
       leads-more demand.StartsAt startsAt leadsTo starts-meant ts w w u (get-mem ts i u e) ([], tt, refl) q
   chain {i} u e (next {i = k} x h y) =
       let v = get-some ts k (omega arith) in
-      let q : v .0 .next-state ≡ u .state = eqName-eq (v .0 .next-state) (u .state) (sym (y .of (v .0) u (r .at k (v .0) (v .1)) (r .at i u e) (p .at k (v .0) (v .1)) (p .at i u e))) in
+      let q : v .0 .next-state ≡ u .state = eqName-eq (v .0 .next-state) (u .state) (sym (y .of ts r p c (v .0) u (v .1) e)) in
       leads-more demand.StartsAt startsAt leadsTo starts-meant ts w (v .0 .next-state) u (get-mem ts i u e) (chain (v .0) (v .1) x) (sym q)
 
   sound : (n : Name) → ledTo m ts w n ≡ true → Led n
@@ -248,7 +248,7 @@ module _ (s : List ℕ) (owner : ℕ) (o : List ℕ) (skip n : ℕ) (rows : List
   unfolding unreachable
   no-initial q = record { of = λ vs w ts g i r p c. rw (not-given readName s at i e q) (note-nothing owner o skip n) }
 
-  pub unreachable-noted : {text : Name} {m : List ℕ} {r : ℕ} {o′ : List ℕ} → b ≡ false → text ≡ textAt s at → Walked (BeginsAt s rows text) (LeadsTo s rows prints) count m → NotesUnledStates s owner o skip n r o′ rows count m at found → NotesUnreachable s owner o skip n r o′ rows count prints found at
+  pub unreachable-noted : {text : Name} {m : List ℕ} {r : ℕ} {o′ : List ℕ} → b ≡ false → text ≡ textAt s at → Walked (BeginsAt s rows text) (LeadsOn s rows prints count) count m → NotesUnledStates s owner o skip n r o′ rows count m at found → NotesUnreachable s owner o skip n r o′ rows count prints found at
   unfolding unreachable
   unreachable-noted {text} {m} q t k z = record {
     of = λ vs w ts g i r p c.

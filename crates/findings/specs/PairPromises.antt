@@ -3,12 +3,13 @@ use Prim.Native.Nat.{ℕ}
 use mathlib.Core.Path.{_≡_}
 use mathlib.Core.List.{List}
 use mathlib.Core.Bool.{Bool, cond}
-use lib.ListN.{length}
+use mathlib.Core.Option.{some}
+use lib.ListN.{length, getElem?}
 use Rattle.reading.specs.Transition.{Transition}
 use Rattle.typing.specs.Names.{eqName}
 use Rattle.findings.specs.Lists.{Placed}
 use Rattle.findings.specs.Finding.{Note}
-use Rattle.findings.specs.Pairs.{alike, sameGuard, clash, ambiguous, byState}
+use Rattle.findings.specs.Pairs.{sameGuard, clash, ambiguous, byState}
 use Rattle.findings.specs.Noting.{Noted}
 use Rattle.findings.specs.Scene.{RowAt, Rows}
 use Rattle.findings.specs.Prints.{PrintOf, Prints}
@@ -26,20 +27,21 @@ module _ (s rows prints : List ℕ) (i j : ℕ) (r : Bool) where
   pub record LeadsTo : Type 0 where
     pub of : (t u : Transition) → RowAt s rows i t → RowAt s rows j u → PrintOf prints i t → PrintOf prints j u → r ≡ eqName (t .next-state) (u .state)
 
-  pub record Alike : Type 0 where
-    pub of : (t u : Transition) → RowAt s rows i t → RowAt s rows j u → PrintOf prints i t → PrintOf prints j u → r ≡ alike t u
-
 pub record SameGuard (s rows : List ℕ) (i j : ℕ) (r : Bool) : Type 0 where
   pub of : (t u : Transition) → RowAt s rows i t → RowAt s rows j u → r ≡ sameGuard t u
+
+-- whether transition i leads to the state of transition j, of so many
+pub record LeadsOn (s rows prints : List ℕ) (count i j : ℕ) (r : Bool) : Type 0 where
+  pub of : (ts : List Transition) → Rows s rows ts → Prints prints ts → count ≡ length ts → (t u : Transition) → getElem? ts i ≡ some t → getElem? ts j ≡ some u → r ≡ eqName (t .next-state) (u .state)
 
 -- warnings or errors of a pair
 unfoldable pub pairNotes : Bool → Placed Transition → Placed Transition → List Note
 pairNotes warn x y = cond warn (ambiguous x y) (clash x y)
 
-module _ (s : List ℕ) (owner : ℕ) (o : List ℕ) (skip n r : ℕ) (o′ : List ℕ) (rows prints : List ℕ) where
+module _ (s : List ℕ) (owner : ℕ) (o : List ℕ) (skip n r : ℕ) (o′ : List ℕ) (rows : List ℕ) where
   pub record NotesPair (i j : ℕ) (warn : Bool) : Type 0 where
-    pub of : (t u : Transition) → RowAt s rows i t → RowAt s rows j u → PrintOf prints i t → PrintOf prints j u → Noted owner o skip n (pairNotes warn (at-place i t) (at-place j u)) r o′
+    pub of : (t u : Transition) → RowAt s rows i t → RowAt s rows j u → Noted owner o skip n (pairNotes warn (at-place i t) (at-place j u)) r o′
 
   -- sites 14 and 15, or site 24
-  pub record NotesPairs (count : ℕ) (warn : Bool) : Type 0 where
+  pub record NotesPairs (prints : List ℕ) (count : ℕ) (warn : Bool) : Type 0 where
     pub of : (ts : List Transition) → Rows s rows ts → Prints prints ts → count ≡ length ts → Noted owner o skip n (byState (pairNotes warn) ts) r o′

@@ -1,8 +1,8 @@
--- What the inner functions of pairs promise: comparing by the bytes alone, priorities, and which transitions are alike.
+-- What the inner functions of pairs promise: comparing by the bytes, priorities, and which transitions have one key.
 use Prim.Native.Nat.{ℕ, _+_}
 use mathlib.Core.Path.{_≡_}
 use mathlib.Core.List.{List, [], _∷_}
-use mathlib.Core.Bool.{Bool, true, false, not, _||_}
+use mathlib.Core.Bool.{Bool, true, false, _||_}
 use mathlib.Core.Option.{Option, some}
 use lib.ListN.{length, drop, getElem?}
 use Rattle.reading.specs.Read.{ok}
@@ -13,15 +13,15 @@ use Rattle.reading.specs.Transition.{Transition}
 use Rattle.findings.specs.Lists.{any}
 use Rattle.findings.specs.Pairs.{equalPriority, noPriority, samePattern, alike, clash, ambiguous}
 use Rattle.findings.specs.Noting.{Noted}
-use Rattle.findings.specs.Scene.{Reads, RowAt, Rows}
-use Rattle.findings.specs.Prints.{Prints}
+use Rattle.findings.specs.Scene.{Reads, RowAt}
+use Rattle.findings.specs.Prints.{rival, Prints}
 use Rattle.findings.specs.Promises.{at-place}
 
 module _ (s rows : List ℕ) (i j : ℕ) (r : Bool) where
   pub record SamePattern : Type 0 where
     pub of : (t u : Transition) → RowAt s rows i t → RowAt s rows j u → r ≡ samePattern t u
 
-  pub record AlikeBytes : Type 0 where
+  pub record Alike : Type 0 where
     pub of : (t u : Transition) → RowAt s rows i t → RowAt s rows j u → r ≡ alike t u
 
   pub record BothEqual : Type 0 where
@@ -50,14 +50,14 @@ module _ (s : List ℕ) (owner : ℕ) (o : List ℕ) (skip n r : ℕ) (o′ : Li
   pub record NotesAmbiguous : Type 0 where
     pub of : (t u : Transition) → RowAt s rows i t → RowAt s rows j u → alike t u ≡ true → Noted owner o skip n (ambiguous (at-place i t) (at-place j u)) r o′
 
--- whether an earlier and a later transition are alike
+-- whether an earlier and a later transition have one key
 unfoldable pub hasPair : List Transition → Bool
 hasPair [] = false
-hasPair (t ∷ ts) = any (alike t) ts || hasPair ts
+hasPair (t ∷ ts) = any (rival t) ts || hasPair ts
 
-module _ (s rows prints : List ℕ) (count : ℕ) where
-  pub record HasAlike (i : ℕ) (r : Bool) : Type 0 where
-    pub of : (ts : List Transition) → Rows s rows ts → Prints prints ts → count ≡ length ts → (t : Transition) → getElem? ts i ≡ some t → r ≡ any (alike t) (drop (i + 1) ts)
+module _ (prints : List ℕ) (count : ℕ) where
+  pub record HasRival (i : ℕ) (r : Bool) : Type 0 where
+    pub of : (ts : List Transition) → Prints prints ts → count ≡ length ts → (t : Transition) → getElem? ts i ≡ some t → r ≡ any (rival t) (drop (i + 1) ts)
 
   pub record NoPairs (r : Bool) : Type 0 where
-    pub of : (ts : List Transition) → Rows s rows ts → Prints prints ts → count ≡ length ts → r ≡ not (hasPair ts)
+    pub of : (ts : List Transition) → Prints prints ts → count ≡ length ts → r ≡ true → hasPair ts ≡ false

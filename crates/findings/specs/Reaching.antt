@@ -66,6 +66,10 @@ module _ (T : ℕ → Bool → Type 0) (U : ℕ → ℕ → Bool → Type 0) (co
     pub closed : (i j : ℕ) → i < count → j < count → Taken m i → Taken m j ⊎ U i j false
     pub sound : (j : ℕ) → j < count → Taken m j → Chained j
 
+-- transition last is followed, where there is one of that number
+pub record Followed (U : ℕ → ℕ → Bool → Type 0) (count last : ℕ) (m : List ℕ) : Type 0 where
+  pub of : last < count → (j : ℕ) → j < count → Taken m j ⊎ U last j false
+
 -- whether transition j starts at a name
 pub record BeginsAt (s rows : List ℕ) (w : Name) (j : ℕ) (r : Bool) : Type 0 where
   pub of : (u : Transition) → RowAt s rows j u → r ≡ eqName (u .state) w

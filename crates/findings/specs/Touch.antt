@@ -2,7 +2,7 @@
 use Prim.Native.Nat.{ℕ, _*_, _/_, _<_}
 use mathlib.Core.Path.{_≡_}
 use mathlib.Core.List.{List, [], _∷_, map}
-use mathlib.Core.Bool.{cond}
+use mathlib.Core.Bool.{Bool, true, cond}
 use mathlib.Core.Option.{Option, some}
 use lib.ListN.{length, getD, getElem?}
 use Rattle.reading.specs.Read.{Reader, ok}
@@ -86,6 +86,10 @@ module _ (s : List ℕ) (at : ℕ) (names m : List ℕ) (r : ℕ) (m′ : List �
 -- what may be absent
 pub record Mentions {A : Type 0} (F : Reader A) (f : Option A → List Name) (s : List ℕ) (at : ℕ) (names m m′ : List ℕ) : Type 0 where
   pub of : (x : Option A) → Reads (optional F) s at x → Touched s names m (f x) m′
+
+-- every variable of a table is marked
+pub record AllMarked (names m : List ℕ) (r : Bool) : Type 0 where
+  pub of : r ≡ true → (k : ℕ) → k < length names / 2 → getD m k 0 ≡ 1
 
 -- a transition by its row, all transitions, and a module
 module _ (s rows names m m′ : List ℕ) where

@@ -50,12 +50,12 @@ module _ (s o : List ℕ) (skip n r : ℕ) (o′ p : List ℕ) (leave k q : ℕ)
   pub record WalksAll : Type 0 where
     pub of : (x : Ir) (e : ℕ) → readIr s 0 ≡ ok x e → Walked x
 
--- how many errors and warnings a document that reads has, and its findings in lent words
-pub record Counted (s : List ℕ) (a b : ℕ) : Type 0 where
-  pub of : (x : Ir) (n : ℕ) → readDocument s ≡ ok x n → (a ≡ length (allErrors x)) × (b ≡ length (allWarnings x))
+-- the findings of a document that reads, written from what a walk kept of them: errors first, and warnings after a of them
+pub record PutsErrors (s kept : List ℕ) (a : ℕ) (o o′ : List ℕ) : Type 0 where
+  pub of : (x : Ir) (n : ℕ) → readDocument s ≡ ok x n → (p : List ℕ) → Written p 0 0 (allErrors x) a kept → o′ ≡ put o 0 0 (allErrors x)
 
-pub record AllWritten (s o : List ℕ) (a : ℕ) (o′ : List ℕ) : Type 0 where
-  pub of : (x : Ir) (n : ℕ) → readDocument s ≡ ok x n → a ≡ length (allErrors x) → o′ ≡ put o 0 0 (findings x)
+pub record PutsWarnings (s kept : List ℕ) (a b : ℕ) (o o′ : List ℕ) : Type 0 where
+  pub of : (x : Ir) (n : ℕ) → readDocument s ≡ ok x n → (p : List ℕ) → Written p 0 0 (allWarnings x) b kept → o′ ≡ put o 0 a (allWarnings x)
 
 -- the answer to a document that reads, and the lent words afterwards
 pub record Replies (s o : List ℕ) (r : Reply) (o′ : List ℕ) : Type 0 where

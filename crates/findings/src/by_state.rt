@@ -34,7 +34,7 @@ fn note_later(
     while j < count {
         let k = 3 * (j as usize) + 2;
         if prints[k] == key {
-            m = note_pair(doc, rows, prints, i, j, warn, out, skip, m, owner);
+            m = note_pair(doc, rows, i, j, warn, out, skip, m, owner);
         }
         j += 1;
     }

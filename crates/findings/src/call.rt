@@ -1,44 +1,72 @@
 // The answers to a document that reads.
 use crate::reply::Line;
 use crate::reply::Reply;
-use crate::whole::Totals;
 use crate::whole::walk_all;
-ghost use Prim.Native.Nat.{_≤_};
-ghost use Rattle.findings.specs.Walks.{Counted, AllWritten, Replies, WarningLine, Lines};
+ghost use mathlib.Core.Path.{_≡_};
+ghost use Prim.Native.Nat.{_+_, _*_, _≤_};
+ghost use lib.ListN.{length};
+ghost use lib.Seq.{paste};
+ghost use Rattle.findings.specs.Walks.{PutsErrors, PutsWarnings, Replies, WarningLine, Lines};
 
-// How many errors and how many warnings there are.
-fn count_all(doc: &[u8]) -> Totals
-    ensures { λ r. ⌜ Counted (now (doc .entry)) (r .errors) (r .warnings) ⌝ }
-    ensures { λ r. ⌜ r .errors ≤ 532733824 ⌝ }
-    ensures { λ r. ⌜ r .warnings ≤ 531656640 ⌝ }
+// Copies so many words into another buffer, from its word at on.
+fn copy_words(from: &[u32], len: usize, out: &mut [u32], at: usize)
+    requires { ⌜ len ≤ length (now from) ⌝ }
+    requires { ⌜ at + len ≤ length (now out) ⌝ }
+    ensures { λ _. ⌜ now (out .exit) ≡ paste (now (out .entry)) at (now (from .entry)) len ⌝ }
 {
-    let mut first = [0u32; 1];
-    let mut second = [0u32; 1];
-    walk_all(doc, &mut first, 0, 0, &mut second, 0, 0)
+    let mut j: usize = 0;
+    while j < len {
+        out[at + j] = from[j];
+        j += 1;
+    }
 }
 
-// Writes all findings, so many of them errors.
-fn write_all(doc: &[u8], out: &mut [u32], errors: usize)
+// Writes all errors: those that a walk kept, where it kept all.
+fn put_errors(doc: &[u8], kept: &[u32], errors: usize, out: &mut [u32])
     requires { ⌜ errors ≤ 532733824 ⌝ }
-    ensures { λ _. ⌜ AllWritten (now (doc .entry)) (now (out .entry)) errors (now (out .exit)) ⌝ }
+    requires { ⌜ 5 * errors ≤ length (now out) ⌝ }
+    ensures { λ _. ⌜ PutsErrors (now (doc .entry)) (now (kept .entry)) errors (now (out .entry)) (now (out .exit)) ⌝ }
 {
-    let mut none = [0u32; 1];
-    walk_all(doc, out, 0, 0, &mut none, 0, 0);
-    walk_all(doc, &mut none, 0, 0, out, 0, errors);
+    let len = 5 * errors;
+    if kept.len() < len {
+        let mut none = [0u32; 1];
+        walk_all(doc, out, 0, 0, &mut none, 0, 0);
+        return;
+    }
+    copy_words(kept, len, out, 0);
+}
+
+// Writes all warnings after so many errors: those that a walk kept, where it kept all.
+fn put_warnings(doc: &[u8], kept: &[u32], errors: usize, warnings: usize, out: &mut [u32])
+    requires { ⌜ errors ≤ 532733824 ⌝ }
+    requires { ⌜ warnings ≤ 531656640 ⌝ }
+    requires { ⌜ 5 * errors + 5 * warnings ≤ length (now out) ⌝ }
+    ensures { λ _. ⌜ PutsWarnings (now (doc .entry)) (now (kept .entry)) errors warnings (now (out .entry)) (now (out .exit)) ⌝ }
+{
+    let len = 5 * warnings;
+    if kept.len() < len {
+        let mut none = [0u32; 1];
+        walk_all(doc, &mut none, 0, 0, out, 0, errors);
+        return;
+    }
+    copy_words(kept, len, out, 5 * errors);
 }
 
 // All findings, where the words suffice.
 pub(crate) fn reply(doc: &[u8], out: &mut [u32]) -> Reply
     ensures { λ r. ⌜ Replies (now (doc .entry)) (now (out .entry)) r (now (out .exit)) ⌝ }
 {
-    let totals = count_all(doc);
+    let mut first = [0u32; 640];
+    let mut second = [0u32; 640];
+    let totals = walk_all(doc, &mut first, 0, 0, &mut second, 0, 0);
     let errors = totals.errors;
     let warnings = totals.warnings;
     let all = errors + warnings;
     if out.len() < 5 * all {
         return Reply::Short(all);
     }
-    write_all(doc, out, errors);
+    put_errors(doc, &first, errors, out);
+    put_warnings(doc, &second, errors, warnings, out);
     Reply::Counts(errors, warnings)
 }
 

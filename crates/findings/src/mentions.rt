@@ -11,7 +11,7 @@ use typing::after_head;
 use typing::null_at;
 ghost use Rattle.reading.specs.Transition.{readTopExpr, readOnError};
 ghost use Rattle.findings.specs.Mentions.{guardNames, errorTouched};
-ghost use Rattle.findings.specs.Touch.{TouchesArgs, TouchesOutput, TouchesEmits, TouchesSet, TouchesSets, Mentions, TouchesRow, TouchesRows, TouchesAll};
+ghost use Rattle.findings.specs.Touch.{TouchesArgs, TouchesOutput, TouchesEmits, TouchesSet, TouchesSets, Mentions, TouchesRow, AllMarked, TouchesRows, TouchesAll};
 
 // The list of arguments at a place; the place after it.
 pub(crate) fn touch_args<'a>(
@@ -135,7 +135,25 @@ pub(crate) fn touch_row<'a>(
     touch_sets(doc, sets, names, marks);
 }
 
-// All transitions.
+// Whether every variable is marked.
+fn all_marked<'a>(names: &'a [usize], marks: &'a [u8]) -> bool
+    ensures { λ r. ⌜ AllMarked (now (names .entry)) (now (marks .entry)) r ⌝ }
+{
+    let count = names.len() / 2;
+    if marks.len() < count {
+        return false;
+    }
+    let mut k: usize = 0;
+    while k < count {
+        if marks[k] != 1 {
+            return false;
+        }
+        k += 1;
+    }
+    true
+}
+
+// All transitions; there is nothing to mark where every variable is marked.
 pub(crate) fn touch_rows<'a>(
     doc: &'a [u8],
     rows: &'a [usize],
@@ -147,6 +165,9 @@ pub(crate) fn touch_rows<'a>(
 {
     let mut i: u8 = 0;
     while i < count {
+        if all_marked(names, marks) {
+            return;
+        }
         touch_row(doc, rows, i, names, marks);
         i += 1;
     }

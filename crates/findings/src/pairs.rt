@@ -14,8 +14,8 @@ ghost use Rattle.reading.specs.Skip.{textAt};
 ghost use Rattle.typing.specs.Names.{eqName};
 ghost use Rattle.findings.specs.Scene.{field};
 ghost use Rattle.findings.specs.Parts.{SameSpan};
-ghost use Rattle.findings.specs.PairPromises.{SameState, LeadsTo, Alike, SameGuard, NotesPair, NotesPairs};
-ghost use Rattle.findings.specs.PairSteps.{SamePattern, AlikeBytes, HasAlike, NoPairs};
+ghost use Rattle.findings.specs.PairPromises.{SameState, LeadsTo, SameGuard, NotesPair, NotesPairs};
+ghost use Rattle.findings.specs.PairSteps.{SamePattern, Alike, HasRival, NoPairs};
 
 // Whether the bytes from a to b and those from c to d are the same.
 pub(crate) fn same_span(doc: &[u8], a: usize, b: usize, c: usize, d: usize) -> bool
@@ -77,9 +77,9 @@ pub(crate) fn same_guard(doc: &[u8], rows: &[usize], i: u8, j: u8) -> bool
     )
 }
 
-// Whether transitions i and j share state and pattern, by the bytes alone.
-fn alike_bytes(doc: &[u8], rows: &[usize], i: u8, j: u8) -> bool
-    ensures { λ r. ⌜ AlikeBytes (now (doc .entry)) (now (rows .entry)) i j r ⌝ }
+// Whether transitions i and j share state and pattern.
+fn alike(doc: &[u8], rows: &[usize], i: u8, j: u8) -> bool
+    ensures { λ r. ⌜ Alike (now (doc .entry)) (now (rows .entry)) i j r ⌝ }
 {
     if same_fields(doc, rows, i, 1, j, 1) {
         return same_pattern(doc, rows, i, j);
@@ -87,21 +87,11 @@ fn alike_bytes(doc: &[u8], rows: &[usize], i: u8, j: u8) -> bool
     false
 }
 
-// Whether transitions i and j share state and pattern.
-pub(crate) fn alike(doc: &[u8], rows: &[usize], prints: &[u32], i: u8, j: u8) -> bool
-    ensures { λ r. ⌜ Alike (now (doc .entry)) (now (rows .entry)) (now (prints .entry)) i j r ⌝ }
-{
-    if print_word(prints, i, 2) != print_word(prints, j, 2) {
-        return false;
-    }
-    alike_bytes(doc, rows, i, j)
-}
-
-// Whether a later transition is like transition i.
-fn has_alike(doc: &[u8], rows: &[usize], prints: &[u32], i: u8, count: u8) -> bool
+// Whether a later transition has the key of transition i.
+fn has_rival(prints: &[u32], i: u8, count: u8) -> bool
     requires { ⌜ 768 ≤ length (now prints) ⌝ }
     requires { ⌜ i < count ⌝ }
-    ensures { λ r. ⌜ HasAlike (now (doc .entry)) (now (rows .entry)) (now (prints .entry)) count i r ⌝ }
+    ensures { λ r. ⌜ HasRival (now (prints .entry)) count i r ⌝ }
 {
     let at = 3 * (i as usize) + 2;
     let key = prints[at];
@@ -109,26 +99,30 @@ fn has_alike(doc: &[u8], rows: &[usize], prints: &[u32], i: u8, count: u8) -> bo
     while j < count {
         let k = 3 * (j as usize) + 2;
         if prints[k] == key {
-            if alike_bytes(doc, rows, i, j) {
-                return true;
-            }
+            return true;
         }
         j += 1;
     }
     false
 }
 
-// Whether no two transitions are alike.
-pub(crate) fn no_pairs(doc: &[u8], rows: &[usize], prints: &[u32], count: u8) -> bool
+// Whether no two transitions have one key: a key is looked for only where its remainder was seen.
+pub(crate) fn no_pairs(prints: &[u32], count: u8) -> bool
     requires { ⌜ 768 ≤ length (now prints) ⌝ }
-    ensures { λ r. ⌜ NoPairs (now (doc .entry)) (now (rows .entry)) (now (prints .entry)) count r ⌝ }
+    ensures { λ r. ⌜ NoPairs (now (prints .entry)) count r ⌝ }
 {
-    let mut i: u8 = 0;
-    while i < count {
-        if has_alike(doc, rows, prints, i, count) {
-            return false;
+    let mut seen: [u8; 2048] = [0; 2048];
+    let mut i = count;
+    while 0 < i {
+        i -= 1;
+        let at = 3 * (i as usize) + 2;
+        let w = (prints[at] % 2039) as usize;
+        if seen[w] != 0 {
+            if has_rival(prints, i, count) {
+                return false;
+            }
         }
-        i += 1;
+        seen[w] = 1;
     }
     true
 }
@@ -137,7 +131,6 @@ pub(crate) fn no_pairs(doc: &[u8], rows: &[usize], prints: &[u32], count: u8) ->
 pub(crate) fn note_pair(
     doc: &[u8],
     rows: &[usize],
-    prints: &[u32],
     i: u8,
     j: u8,
     warn: bool,
@@ -147,10 +140,10 @@ pub(crate) fn note_pair(
     owner: u32,
 ) -> usize
     requires { ⌜ n + 2 ≤ 2 ^ 40 ⌝ }
-    ensures { λ r. ⌜ NotesPair (now (doc .entry)) owner (now (out .entry)) skip n r (now (out .exit)) (now (rows .entry)) (now (prints .entry)) i j warn ⌝ }
+    ensures { λ r. ⌜ NotesPair (now (doc .entry)) owner (now (out .entry)) skip n r (now (out .exit)) (now (rows .entry)) i j warn ⌝ }
     ensures { λ r. ⌜ r ≤ n + 2 ⌝ }
 {
-    if !alike(doc, rows, prints, i, j) {
+    if !alike(doc, rows, i, j) {
         return n;
     }
     if warn {
@@ -176,7 +169,7 @@ pub(crate) fn note_pairs(
     ensures { λ r. ⌜ NotesPairs (now (doc .entry)) owner (now (out .entry)) skip n r (now (out .exit)) (now (rows .entry)) (now (prints .entry)) count warn ⌝ }
     ensures { λ r. ⌜ r ≤ n + 33162750 ⌝ }
 {
-    if no_pairs(doc, rows, prints, count) {
+    if no_pairs(prints, count) {
         return n;
     }
     note_by_state(doc, rows, prints, count, warn, out, skip, n, owner)

@@ -1,4 +1,5 @@
 // Prints: numbers made of bytes, so that most names and patterns that differ are told apart by a number.
+use crate::priority::rank;
 use crate::rows::field;
 use reading::text_at;
 ghost use mathlib.Core.Path.{_≡_};
@@ -10,7 +11,7 @@ ghost use Rattle.reading.specs.Skip.{textAt};
 ghost use Rattle.reading.specs.Views.{span};
 ghost use Rattle.findings.specs.Scene.{field};
 ghost use Rattle.findings.specs.Prints.{print, printAt};
-ghost use Rattle.findings.specs.Parts.{PrintPart, PrintedRow};
+ghost use Rattle.findings.specs.Parts.{PrintPart, KeyPrint, PrintedRow};
 ghost use Rattle.findings.specs.PairPromises.{Printed};
 
 // The bytes from one place to another, as far as there are any.
@@ -94,14 +95,22 @@ fn write_print(prints: &mut [u32], i: u8, state: u32, next: u32, key: u32)
     prints[at + 2] = key;
 }
 
-// The prints of transition i: of its state, of the state it leads to, and of its state with its pattern.
+// The key of transition i, by the print of its state.
+fn key_of(doc: &[u8], rows: &[usize], i: u8, state: u32) -> u32
+    ensures { λ r. ⌜ KeyPrint (now (doc .entry)) (now (rows .entry)) i state r ⌝ }
+{
+    let h = print_pattern(doc, rows, i, state);
+    rank(doc, field(rows, i, 7), h)
+}
+
+// The prints of transition i: of its state, of the state it leads to, and its key.
 fn fill_print(doc: &[u8], rows: &[usize], i: u8, prints: &mut [u32])
     requires { ⌜ 768 ≤ length (now prints) ⌝ }
     ensures { λ _. ⌜ PrintedRow (now (doc .entry)) (now (rows .entry)) i (now (prints .entry)) (now (prints .exit)) ⌝ }
 {
     let state = print_name(doc, rows, i, 1);
     let next = print_name(doc, rows, i, 4);
-    let key = print_pattern(doc, rows, i, state);
+    let key = key_of(doc, rows, i, state);
     write_print(prints, i, state, next, key);
 }
 

@@ -2,6 +2,7 @@
 use reading::Answer;
 use reading::Cursor;
 use typing::null_at;
+ghost use Rattle.findings.specs.Parts.{Ranked};
 ghost use Rattle.findings.specs.PairSteps.{PriorityAt, EqualPriority, NoPriority};
 
 // The number at a place; 0 where none stands there.
@@ -14,6 +15,18 @@ fn priority_at(doc: &[u8], at: usize) -> u64
         return 0;
     };
     v
+}
+
+// A print with the priority at a place; it may be absent.
+pub(crate) fn rank(doc: &[u8], at: usize, h: u32) -> u32
+    ensures { λ r. ⌜ Ranked (now (doc .entry)) at h r ⌝ }
+{
+    if null_at(doc, at) {
+        return h;
+    }
+    let v = priority_at(doc, at) % 4294967296;
+    let n = (h as u64) * 31 + v + 1;
+    (n % 4294967296) as u32
 }
 
 // Whether both are given and equal.

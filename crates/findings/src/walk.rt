@@ -1,13 +1,14 @@
 // The walk over transitions, each taken at most once: marks by place, and a queue of the places taken.
 use crate::pairs::leads_to;
+use crate::pairs::same_fields;
 use crate::rows::field;
 use reading::text_at;
 use typing::same;
 ghost use mathlib.Core.Path.{_≡_};
 ghost use Prim.Native.Nat.{_+_, _<_};
 ghost use lib.ListN.{length, set};
-ghost use Rattle.findings.specs.PairPromises.{LeadsTo};
-ghost use Rattle.findings.specs.Reaching.{Queued, Stepped, Swept, Walked, BeginsAt};
+ghost use Rattle.findings.specs.PairPromises.{LeadsOn};
+ghost use Rattle.findings.specs.Reaching.{Queued, Stepped, Swept, Walked, Followed, BeginsAt};
 
 // Takes transition i; the queue's next place.
 fn take(i: u8, marks: &mut [u8], queue: &mut [u8], tail: usize) -> usize
@@ -83,7 +84,7 @@ fn step_one<'a>(
 ) -> usize
     requires { ⌜ Queued count (now marks) (now queue) tail ⌝ }
     requires { ⌜ i < count ⌝ }
-    ensures { λ r. ⌜ Stepped (LeadsTo (now (doc .entry)) (now (rows .entry)) (now (prints .entry)) p) i (now (marks .entry)) (now (queue .entry)) tail (now (marks .exit)) (now (queue .exit)) r ⌝ }
+    ensures { λ r. ⌜ Stepped (LeadsOn (now (doc .entry)) (now (rows .entry)) (now (prints .entry)) count p) i (now (marks .entry)) (now (queue .entry)) tail (now (marks .exit)) (now (queue .exit)) r ⌝ }
 {
     let at = i as usize;
     if marks[at] != 0 {
@@ -107,7 +108,7 @@ pub(crate) fn step_all<'a>(
     tail: usize,
 ) -> usize
     requires { ⌜ Queued count (now marks) (now queue) tail ⌝ }
-    ensures { λ r. ⌜ Swept (LeadsTo (now (doc .entry)) (now (rows .entry)) (now (prints .entry)) p) count (now (marks .entry)) (now (queue .entry)) tail count (now (marks .exit)) (now (queue .exit)) r ⌝ }
+    ensures { λ r. ⌜ Swept (LeadsOn (now (doc .entry)) (now (rows .entry)) (now (prints .entry)) count p) count (now (marks .entry)) (now (queue .entry)) tail count (now (marks .exit)) (now (queue .exit)) r ⌝ }
 {
     if tail == count as usize {
         return tail;
@@ -121,6 +122,30 @@ pub(crate) fn step_all<'a>(
     t
 }
 
+// The same; there is none left where the last one that was followed leads to the same state.
+fn step_next<'a>(
+    doc: &'a [u8],
+    rows: &'a [usize],
+    prints: &'a [u32],
+    count: u8,
+    last: u8,
+    p: u8,
+    marks: &mut [u8],
+    queue: &mut [u8],
+    tail: usize,
+) -> usize
+    requires { ⌜ Queued count (now marks) (now queue) tail ⌝ }
+    requires { ⌜ Followed (LeadsOn (now doc) (now rows) (now prints) count) count last (now marks) ⌝ }
+    ensures { λ r. ⌜ Swept (LeadsOn (now (doc .entry)) (now (rows .entry)) (now (prints .entry)) count p) count (now (marks .entry)) (now (queue .entry)) tail count (now (marks .exit)) (now (queue .exit)) r ⌝ }
+{
+    if last < count {
+        if same_fields(doc, rows, last, 4, p, 4) {
+            return tail;
+        }
+    }
+    step_all(doc, rows, prints, count, p, marks, queue, tail)
+}
+
 // Marks every transition that a chain from the name takes.
 pub(crate) fn walk<'a>(
     doc: &'a [u8],
@@ -132,13 +157,15 @@ pub(crate) fn walk<'a>(
     queue: &mut [u8],
 )
     requires { ⌜ Queued count (now marks) (now queue) 0 ⌝ }
-    ensures { λ _. ⌜ Walked (BeginsAt (now (doc .entry)) (now (rows .entry)) (now (name .entry))) (LeadsTo (now (doc .entry)) (now (rows .entry)) (now (prints .entry))) count (now (marks .exit)) ⌝ }
+    ensures { λ _. ⌜ Walked (BeginsAt (now (doc .entry)) (now (rows .entry)) (now (name .entry))) (LeadsOn (now (doc .entry)) (now (rows .entry)) (now (prints .entry)) count) count (now (marks .exit)) ⌝ }
 {
     let mut tail = start_all(doc, rows, count, name, marks, queue);
+    let mut last: u8 = 255;
     let mut head: usize = 0;
     while head < tail {
         let p = queue[head];
-        tail = step_all(doc, rows, prints, count, p, marks, queue, tail);
+        tail = step_next(doc, rows, prints, count, last, p, marks, queue, tail);
+        last = p;
         head += 1;
     }
 }

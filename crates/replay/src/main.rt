@@ -1,7 +1,14 @@
 // Replays data/vectors.bin: each record has a document and the answer that is due, made by tests/oracle. Prints each
-// document that is answered otherwise, and how many there are.
-use libc::STDOUT_FILENO;
-ghost use Prim.Native.Nat.{_<_};
+// document that is answered otherwise, and how many there are. Then data/findings.bin alike.
+mod file;
+mod findings;
+mod sheet;
+
+use file::more;
+use file::next_byte;
+use file::next_word;
+use file::print;
+use file::print_number;
 
 // A record's outcome.
 enum Outcome {
@@ -12,51 +19,6 @@ enum Outcome {
     Refused,
     // It was not.
     Wrong,
-}
-
-fn print(text: &[u8]) {
-    io::write_all(STDOUT_FILENO, text);
-}
-
-fn print_number(n: u64) {
-    io::print_decimal(STDOUT_FILENO, n);
-}
-
-fn wide(b: u8) -> u64
-    ensures { λ r. ⌜ r < 256 ⌝ }
-{
-    b as u64
-}
-
-// The number that four bytes make, the least significant first.
-fn word(a: u8, b: u8, c: u8, d: u8) -> u64 {
-    wide(a) + wide(b) * 256 + wide(c) * 65536 + wide(d) * 16777216
-}
-
-// One more, as long as there is a larger number.
-fn more(n: u64) -> u64 {
-    if n < 18446744073709551615 {
-        return n + 1;
-    }
-    n
-}
-
-// The next four bytes of the file as a number; 2^32 at its end.
-fn next_word(fd: i32) -> u64 {
-    let mut b = [0u8; 4];
-    if io::read_full(fd, &mut b) == 4 {
-        return word(b[0], b[1], b[2], b[3]);
-    }
-    4294967296
-}
-
-// The next byte of the file; 256 at its end.
-fn next_byte(fd: i32) -> u64 {
-    let mut b = [0u8; 1];
-    if io::read_full(fd, &mut b) == 1 {
-        return wide(b[0]);
-    }
-    256
 }
 
 fn print_answer(number: u64, place: u64) {
@@ -177,4 +139,5 @@ fn main() {
     let fd = os::open_read(b"vectors.bin");
     let mut space = [0u8; 70000];
     report(replay(fd, &mut space));
+    findings::run(&mut space);
 }

@@ -1,11 +1,16 @@
-//! Time of a call: the library's reading beside the decoder's, and typing
-//! beside reading.
+//! Time of a call: the library's reading beside the decoder's, its findings
+//! beside the original's, and typing beside reading; and time of a program
+//! beside the same over the original.
 
 use crate::causes;
 use crate::decode::{answer, decode};
+use crate::encode::encode;
+use crate::generate::build::ir;
+use crate::lang::ir::Ir;
+use crate::messages::{alike, output, run as run_program};
 use crate::offer::{Finder, Reader};
 use crate::original::findings;
-use crate::samples::{samples, Sample};
+use crate::samples::{every_pair, growing, samples, Sample};
 use std::fs;
 use std::hint::black_box;
 use std::path::Path;
@@ -13,6 +18,9 @@ use std::process::Command;
 use std::time::Instant;
 
 const ROUNDS: usize = 301;
+
+/// Of the calls that take longest.
+const PAIR_ROUNDS: usize = 11;
 
 /// The words that the program lends.
 const LENT: usize = 16_380;
@@ -34,30 +42,41 @@ pub fn bench(read: Reader, find: Finder) {
         line(&sample, "offer_read", ours, "Rust decode", rust);
     }
     for sample in samples() {
-        let doc = &sample.bytes[..];
-        let ours = || {
-            black_box(find(black_box(doc), &mut [0; LENT]));
-        };
-        let rust = || {
-            let decoded = decode(black_box(doc)).ok();
-            black_box(decoded.map(|ir| findings(&ir)));
-        };
-        line(
-            &sample,
-            "offer_findings",
-            ours,
-            "Rust decode and check",
-            rust,
-        );
+        findings_line(find, &sample, ROUNDS);
     }
+    println!("one module of so many transitions:");
+    for sample in growing() {
+        findings_line(find, &sample, ROUNDS);
+    }
+    println!("16 modules of 255 transitions, every pair found, counted and refused with 10:");
+    let sample = every_pair();
+    assert_eq!(find(&sample.bytes, &mut [0; LENT]), (10, [518_160, 0]));
+    findings_line(find, &sample, PAIR_ROUNDS);
+}
+
+fn findings_line(find: Finder, sample: &Sample, rounds: usize) {
+    let doc = &sample.bytes[..];
+    let ours = || {
+        black_box(find(black_box(doc), &mut [0; LENT]));
+    };
+    let rust = || {
+        let decoded = decode(black_box(doc)).ok();
+        black_box(decoded.map(|ir| findings(&ir)));
+    };
+    let its = "Rust decode and check";
+    line_of(rounds, sample, "offer_findings", ours, its, rust);
+}
+
+fn line(sample: &Sample, our: &str, ours: impl Fn(), its: &str, rust: impl Fn()) {
+    line_of(ROUNDS, sample, our, ours, its, rust);
 }
 
 /// Batches of both in turn, and the median of each.
-fn line(sample: &Sample, our: &str, ours: impl Fn(), its: &str, rust: impl Fn()) {
+fn line_of(rounds: usize, sample: &Sample, our: &str, ours: impl Fn(), its: &str, rust: impl Fn()) {
     let (ours_calls, rust_calls) = (batch(&ours), batch(&rust));
     let mut ours_times = Vec::new();
     let mut rust_times = Vec::new();
-    for _ in 0..ROUNDS {
+    for _ in 0..rounds {
         ours_times.push(time(&ours, ours_calls));
         rust_times.push(time(&rust, rust_calls));
     }
@@ -72,7 +91,9 @@ fn line(sample: &Sample, our: &str, ours: impl Fn(), its: &str, rust: impl Fn())
 
 /// How many calls make a batch.
 fn batch(call: impl Fn()) -> u32 {
-    time(&call, 10);
+    if time(&call, 1) > BATCH_NANOSECONDS {
+        return 1;
+    }
     let once = time(&call, 10).max(1.0);
     ((BATCH_NANOSECONDS / once) as u32).max(1)
 }
@@ -158,4 +179,42 @@ fn run(program: &Path, dir: &Path, mode: &str, times: u32) -> Result<f64, String
         true => Ok(time),
         false => Err(String::from_utf8_lossy(&output.stdout).into_owned()),
     }
+}
+
+const PROGRAM_ROUNDS: usize = 101;
+
+/// Two programs on each document through pipes, in turn, from start to end:
+/// the smallest document, the samples, and one with nearly as many findings as
+/// the words hold.
+pub fn programs(ours: &Path, rust: &Path) -> Result<(), String> {
+    let sample = |name, ir: Ir| Sample {
+        name,
+        bytes: encode(&ir),
+    };
+    let mut all = vec![sample("empty", ir(Vec::new()))];
+    all.extend(samples());
+    all.push(sample("found", alike(81)));
+    for sample in all {
+        let due = output(&sample.bytes);
+        let mut times = [Vec::new(), Vec::new()];
+        for _ in 0..PROGRAM_ROUNDS {
+            for (path, times) in [ours, rust].into_iter().zip(&mut times) {
+                let start = Instant::now();
+                let given = run_program(path, &sample.bytes)?;
+                times.push(start.elapsed().as_nanos() as f64);
+                if given != due {
+                    return Err(format!("{} prints something else", path.display()));
+                }
+            }
+        }
+        let [ours, rust] = times.map(median);
+        println!(
+            "{:<6} {:>6} bytes, {:>6} printed: program {ours:>9.0} ns, over the Rust {rust:>9.0} ns, Rust/ours {:.2}",
+            sample.name,
+            sample.bytes.len(),
+            due.len(),
+            rust / ours
+        );
+    }
+    Ok(())
 }

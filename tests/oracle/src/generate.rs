@@ -3,6 +3,7 @@
 
 pub mod build;
 pub mod cases;
+pub mod crowded;
 pub mod damage;
 pub mod deep;
 pub mod depth;

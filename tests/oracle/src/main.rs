@@ -6,12 +6,18 @@ mod causes;
 mod compare;
 mod decode;
 mod encode;
+mod examples;
 mod found;
 mod generate;
 mod json;
+mod kept;
+mod lines;
+mod messages;
 mod offer;
 mod original;
+mod rearranged;
 mod samples;
+mod shapes;
 #[cfg(test)]
 mod site_tests;
 mod sites;
@@ -35,6 +41,17 @@ const USAGE: &str = "usage:
   oracle same DIR           fail unless DIR/vectors.bin is what `vectors` writes
   oracle causes DIR         write DIR/vectors.bin with causes, and print counts
   oracle same-causes DIR    fail unless DIR/vectors.bin is what `causes` writes
+  oracle sheets DIR         write DIR/findings.bin, and print counts
+  oracle same-sheets DIR    fail unless DIR/findings.bin is what `sheets` writes
+  oracle messages N SEED DIR
+                            write DIR/messages.bin: N documents with all that
+                            `offercheck` is to print for each
+  oracle same-messages N SEED DIR
+                            fail unless DIR/messages.bin is that
+  oracle program PATH [N [SEED]]
+                            what the program prints beside what it is to
+                            print, on N documents
+  oracle examples DIR       write the example documents to DIR/documents
   oracle items DIR N SEED   write DIR/vectors.bin with N other documents, and
                             print what the replay is to print
   oracle compare [N [SEED]] the library beside the decoder on N documents
@@ -42,6 +59,8 @@ const USAGE: &str = "usage:
   oracle sweep              the same on every small change of small documents
   oracle bench              time of the library beside the decoder
   oracle typing PROGRAM DIR time of typing beside reading, by the replay's program
+  oracle programs PATH OTHER
+                            time of a program beside another, from start to end
   oracle write DIR          write the benchmark documents
   oracle table [N [SEED]]   what the original finds on N planted documents";
 
@@ -56,6 +75,20 @@ fn main() -> ExitCode {
         ["same", dir] => same_vectors(Path::new(dir)),
         ["causes", dir] => write_causes(Path::new(dir)),
         ["same-causes", dir] => same_causes(Path::new(dir)),
+        ["sheets", dir] => write_sheets(Path::new(dir)),
+        ["same-sheets", dir] => same_sheets(Path::new(dir)),
+        ["messages", count, seed, dir] => {
+            number(count).and_then(|n| write_messages(n, number(seed)?, Path::new(dir)))
+        }
+        ["same-messages", count, seed, dir] => {
+            number(count).and_then(|n| same_messages(n, number(seed)?, Path::new(dir)))
+        }
+        ["program", path] => program(path, 20_000, 1),
+        ["program", path, count] => number(count).and_then(|n| program(path, n, 1)),
+        ["program", path, count, seed] => {
+            number(count).and_then(|n| program(path, n, number(seed)?))
+        }
+        ["examples", dir] => write_examples(Path::new(dir)),
         ["items", dir, count, seed] => {
             number(count).and_then(|n| write_items(Path::new(dir), n, number(seed)?))
         }
@@ -68,6 +101,7 @@ fn main() -> ExitCode {
         ["sweep"] => sweep(),
         ["bench"] => library().and_then(|read| Ok(bench::bench(read, finder()?))),
         ["typing", program, dir] => bench::typing(Path::new(program), Path::new(dir)),
+        ["programs", path, other] => bench::programs(Path::new(path), Path::new(other)),
         ["write", dir] => write_samples(Path::new(dir)),
         ["table"] => table(20_000, 1),
         ["table", count] => number(count).and_then(|n| table(n, 1)),
@@ -142,6 +176,70 @@ fn same_causes(dir: &Path) -> Done {
     same_file(dir, causes::FILE, &causes::file(&all))?;
     println!("{} documents with causes, the same", all.len());
     Ok(())
+}
+
+fn write_sheets(dir: &Path) -> Done {
+    let all = kept::records();
+    write_file(dir, kept::FILE, &kept::file(&all))?;
+    kept::report(&all);
+    Ok(())
+}
+
+fn same_sheets(dir: &Path) -> Done {
+    let all = kept::records();
+    same_file(dir, kept::FILE, &kept::file(&all))?;
+    println!("{} documents with findings, the same", all.len());
+    Ok(())
+}
+
+fn write_messages(count: usize, seed: u64, dir: &Path) -> Done {
+    let all = messages::records(count, seed);
+    write_file(dir, messages::FILE, &messages::file(&all))?;
+    messages::report(&all);
+    match count < 2_000 || messages::is_whole(&all) {
+        true => Ok(()),
+        false => Err("a kind of answer, a site or a cause is missing".to_string()),
+    }
+}
+
+fn same_messages(count: usize, seed: u64, dir: &Path) -> Done {
+    let all = messages::records(count, seed);
+    same_file(dir, messages::FILE, &messages::file(&all))?;
+    println!("{} documents with what is printed, the same", all.len());
+    Ok(())
+}
+
+/// Each example with what is printed for it; a command runs in the folder.
+fn write_examples(dir: &Path) -> Done {
+    let documents = &dir.join("documents");
+    for example in examples::examples() {
+        let (name, sentence) = (example.name, example.sentence);
+        let bytes = match example.made {
+            examples::Made::Lines(lines) => {
+                let file = examples::hex_file(sentence, &lines);
+                write_file(documents, &format!("{name}.hex"), file.as_bytes())?;
+                lines.into_iter().flat_map(|line| line.bytes).collect()
+            }
+            examples::Made::Command(command) => {
+                let file = format!("# {sentence}\n{command}\n");
+                write_file(documents, &format!("{name}.sh"), file.as_bytes())?;
+                run_command(dir, command)?
+            }
+        };
+        write_file(documents, &format!("{name}.out"), &messages::output(&bytes))?;
+    }
+    write_file(dir, "README.md", examples::readme().as_bytes())
+}
+
+/// What the command writes.
+fn run_command(dir: &Path, command: &str) -> Result<Vec<u8>, String> {
+    let mut shell = std::process::Command::new("sh");
+    let output = shell.arg("-c").arg(command).current_dir(dir).output();
+    output.map(|o| o.stdout).map_err(|e| e.to_string())
+}
+
+fn program(path: &str, count: usize, seed: u64) -> Done {
+    messages::program(Path::new(path), count, seed).and_then(agreed)
 }
 
 fn write_items(dir: &Path, count: usize, seed: u64) -> Done {

@@ -1,10 +1,12 @@
-//! The three benchmark documents: sound state machines without errors.
+//! The benchmark documents: three sound state machines without errors, one
+//! of a growing number of transitions, and one in which every pair is found.
 
 use crate::encode::encode;
 use crate::generate::build::*;
 use crate::lang::ir::*;
 
 /// A benchmark document under its file name.
+#[derive(Clone)]
 pub struct Sample {
     pub name: &'static str,
     pub bytes: Vec<u8>,
@@ -25,6 +27,43 @@ pub fn samples() -> Vec<Sample> {
         ),
         sample("many", many()),
     ]
+}
+
+/// One module of the mixed kind with a growing number of transitions.
+pub fn growing() -> Vec<Sample> {
+    let sizes = [
+        ("25", 25),
+        ("50", 50),
+        ("100", 100),
+        ("200", 200),
+        ("255", 255),
+    ];
+    let sample = |(name, transitions)| Sample {
+        name,
+        bytes: encode(&ir(vec![mixed("Link", transitions, 3)])),
+    };
+    sizes.map(sample).to_vec()
+}
+
+/// 16 modules of 255 transitions with one state and one pattern: each pair of
+/// a module is found, 518,160 in all.
+pub fn every_pair() -> Sample {
+    let module = Module {
+        enums: vec![enum_decl("State", &["A"])],
+        initial_state: Some(text("A")),
+        events: vec![group("E", Vec::new())],
+        transitions: (0..255)
+            .map(|id| Transition {
+                id,
+                ..step("A", "E", "A")
+            })
+            .collect(),
+        ..bare("M")
+    };
+    Sample {
+        name: "pairs",
+        bytes: encode(&ir(vec![module; 16])),
+    }
 }
 
 const STATES: [&str; 6] = ["Idle", "Opening", "Open", "Busy", "Closing", "Failed"];

@@ -7,11 +7,13 @@ use crate::generate::build::*;
 use crate::generate::cases::{self, cases, pairs, sound};
 use crate::generate::rng::Rng;
 use crate::generate::{seeds, valid};
+use crate::kept;
 use crate::lang::ir::*;
+use crate::messages;
 use crate::samples::samples;
 use crate::sites::{findings, Words};
 use crate::table::Table;
-use std::collections::BTreeSet;
+use std::collections::{BTreeMap, BTreeSet};
 
 /// The words of a document that is read from its bytes.
 fn words(ir: &Ir) -> Vec<Words> {
@@ -540,6 +542,32 @@ fn planted_documents() {
     assert!(Table::of(3_000, 3).is_whole());
 }
 
+/// A table lacks something if one pair that can occur is not in it, be it only
+/// at an assumption, or if one is that cannot.
+#[test]
+fn tables_that_lack_something() {
+    let ir = ir(vec![sound()]);
+    let all: Vec<Words> = pairs()
+        .into_iter()
+        .flat_map(|(site, cause)| [[0, site, 0, 0, cause], [0, site, 1, 0, cause]])
+        .collect();
+    let is_whole = |words: &[Words]| {
+        let mut table = Table::default();
+        table.count(&ir, 0, words);
+        table.is_whole()
+    };
+    assert!(is_whole(&all));
+    for (site, cause) in pairs() {
+        let of = |word: &Words| word[1] == site && word[4] == cause;
+        let others: Vec<Words> = all.iter().filter(|word| !of(word)).copied().collect();
+        assert!(!is_whole(&others));
+        let first = |word: &Words| of(word) && word[2] == 1;
+        let others: Vec<Words> = all.iter().filter(|word| !first(word)).copied().collect();
+        assert_eq!(is_whole(&others), site != 19);
+    }
+    assert!(!is_whole(&[&all[..], &[[0, 5, 0, 0, 31]]].concat()));
+}
+
 /// The parts make the whole, whatever the document holds.
 #[test]
 fn random_documents() {
@@ -574,6 +602,84 @@ fn kept_causes() {
         assert!(counts[&(kind, 0)] > 100, "{name} not given");
         assert!(counts[&(kind, 1)] >= causes::LEAST, "{name} given");
     }
+}
+
+/// The kept findings: each site with each cause, each refusal, and no more
+/// bytes than there may be.
+#[test]
+fn kept_findings() {
+    let all = kept::records();
+    let file = kept::file(&all);
+    assert!(file == kept::file(&kept::records()), "the same each time");
+    assert!(file.len() < 800_000);
+    assert!(all.len() >= 500);
+    assert!(kept::table(&all).is_whole());
+    let mut times = BTreeMap::new();
+    for [_, site, _, _, cause] in all.iter().flat_map(|record| &record.words) {
+        *times.entry((*site, *cause)).or_insert(0) += 1;
+    }
+    assert!(times.values().all(|times| *times >= kept::LEAST));
+    assert!(kept::numbers(&all).iter().all(|times| *times > 0));
+}
+
+/// The kept messages: each kind of answer, each site with each cause, each
+/// wording of cause 17, each type as the original shows it, and a list of names.
+#[test]
+fn kept_messages() {
+    let all = messages::records(2_400, 1);
+    let file = messages::file(&all);
+    assert!(file == messages::file(&messages::records(2_400, 1)));
+    assert!(file.len() < 2_000_000);
+    assert!(messages::is_whole(&all));
+    let outputs = all.iter().map(|r| String::from_utf8_lossy(&r.output));
+    let outputs: String = outputs.collect();
+    for shown in [
+        "operand of ! must be bool, found ",
+        "left operand must be bool, found ",
+        "right operand must be bool, found ",
+        "formula expression must be bool, found ",
+        "guard must be bool: guard must be bool, found ",
+        "found Bit(",
+        "found IntLit",
+        "found Enum(\"Mode\")",
+        "found Enum(\"State\")",
+        "vs Bool",
+        "field '",
+        "arg for '",
+        "enum variant path []",
+        "enum variant path [\"",
+        "\", \"",
+        "18446744073709551615",
+        "0 errors, 0 warnings",
+        "1 errors, ",
+        ", 1 warnings",
+    ] {
+        assert!(outputs.contains(shown), "{shown}");
+    }
+}
+
+/// What the program prints for document 01's example.
+#[test]
+fn the_example_printed() {
+    let doc = encode(&seeds::worked_example());
+    let due = "warning: module 'M': state 'C' is unreachable from the initial state\n\
+               warning: module 'M': event 'stop' is never used in any transition pattern (dead event)\n\
+               0 errors, 2 warnings\n";
+    assert_eq!(String::from_utf8_lossy(&messages::output(&doc)), due);
+    assert_eq!(messages::output(&[]), b"refused 2 at 0\n");
+}
+
+/// 3,276 findings are printed, one more is refused with 10.
+#[test]
+fn short_sheets() {
+    let with = |enums: usize| {
+        let mut ir = messages::alike(81);
+        let lost = (0..enums).map(|n| format!("s{n}"));
+        ir.modules[0].enums[0].variants.extend(lost);
+        messages::output(&encode(&ir))
+    };
+    assert!(with(36).ends_with(b"\n3240 errors, 36 warnings\n"));
+    assert_eq!(with(37), b"refused 10 at 3277\n");
 }
 
 /// The steps of a module with each of its parts, by their places.

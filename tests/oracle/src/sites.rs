@@ -151,19 +151,21 @@ const WITHIN: [&str; 2] = ["field '*': @", "arg for '*': @"];
 
 /// The rest of the text after the wording, if the text has it.
 fn rest<'a>(wording: &str, text: &'a str) -> Option<&'a str> {
-    let mut text = text;
-    for due in wording.chars() {
-        match due {
-            '@' => return Some(text),
-            '*' => {
-                let other = |c: char| !c.is_ascii_alphanumeric() && c != '_';
-                let end = text.find(other).unwrap_or(text.len());
-                text = text.get(end..).filter(|_| end > 0)?;
-            }
-            _ => text = text.strip_prefix(due)?,
-        }
+    let end = wording.find(['*', '@']).unwrap_or(wording.len());
+    let (plain, next) = wording.split_at(end);
+    let text = text.strip_prefix(plain)?;
+    if next.is_empty() {
+        return text.is_empty().then_some(text);
     }
-    text.is_empty().then_some(text)
+    if next.starts_with('@') {
+        return Some(text);
+    }
+    let other = |b: u8| !b.is_ascii_alphanumeric() && b != b'_';
+    let end = text.bytes().position(other).unwrap_or(text.len());
+    match end {
+        0 => None,
+        _ => rest(&next[1..], &text[end..]),
+    }
 }
 
 /// The number of a cause, if the text is one's.
@@ -176,10 +178,11 @@ fn cause(text: &str) -> Option<u32> {
     }))
 }
 
-/// Site and cause of a message.
+/// Site and cause of a message. Every wording begins with the module's name.
 fn site(message: &str) -> (u32, u32) {
+    let after = rest("module '*'@", message).unwrap_or(message);
     let fits = SITES.iter().filter_map(|(number, wording)| {
-        let rest = rest(wording, message)?;
+        let rest = rest(wording.strip_prefix("module '*'")?, after)?;
         let cause = match WITH_CAUSE.contains(number) {
             true => cause(rest)?,
             false => 0,
@@ -275,7 +278,9 @@ fn declarations(module: &Module) -> Module {
     }
 }
 
-/// Pairs of places of transitions with one state, by its name.
+/// Pairs of places of transitions with one state and one pattern, by the
+/// state's name. Of no other pair is anything said: the whole would have more
+/// messages than the parts.
 fn pairs(module: &Module) -> Vec<[usize; 2]> {
     let mut by_state: BTreeMap<&str, Vec<usize>> = BTreeMap::new();
     for (place, transition) in module.transitions.iter().enumerate() {
@@ -285,7 +290,9 @@ fn pairs(module: &Module) -> Vec<[usize; 2]> {
     for places in by_state.values() {
         for (earlier, i) in places.iter().enumerate() {
             for j in &places[earlier + 1..] {
-                pairs.push([*i, *j]);
+                if module.transitions[*i].pattern == module.transitions[*j].pattern {
+                    pairs.push([*i, *j]);
+                }
             }
         }
     }

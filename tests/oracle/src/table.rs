@@ -1,4 +1,4 @@
-//! How often each site and each cause is found on planted documents.
+//! How often each site and each cause is found.
 
 use crate::decode::decode;
 use crate::encode::encode;
@@ -6,7 +6,7 @@ use crate::generate::cases::pairs;
 use crate::generate::planted;
 use crate::generate::rng::Rng;
 use crate::lang::ir::Ir;
-use crate::sites::{findings, WITH_CAUSE};
+use crate::sites::{findings, Words, WITH_CAUSE};
 use std::collections::{BTreeMap, BTreeSet};
 
 /// Findings by site and cause; those at site 19 are counted by property and
@@ -35,13 +35,17 @@ impl Table {
         let bytes = encode(ir);
         let read = decode(&bytes).expect("a planted document is accepted");
         assert_eq!(&read, ir, "it is what was encoded");
-        let all = findings(&read).words();
+        self.count(&read, bytes.len(), &findings(&read).words());
+    }
+
+    /// Counts the findings of a document of so many bytes.
+    pub fn count(&mut self, ir: &Ir, bytes: usize, all: &[Words]) {
         self.documents += 1;
-        self.bytes += bytes.len();
+        self.bytes += bytes;
         self.without += usize::from(all.is_empty());
-        for [module, site, first, _, cause] in all {
+        for &[module, site, first, _, cause] in all {
             *self.counts.entry((site, cause)).or_default() += 1;
-            let properties = read.modules[module as usize].properties.len();
+            let properties = ir.modules[module as usize].properties.len();
             if site == 19 && first as usize >= properties {
                 *self.assumptions.entry(cause).or_default() += 1;
             }
@@ -56,6 +60,11 @@ impl Table {
         due == seen
             && formulas.clone().all(|(_, cause)| self.property(*cause) > 0)
             && formulas.count() == self.assumptions.len()
+    }
+
+    /// All that were counted.
+    pub fn findings(&self) -> usize {
+        self.counts.values().sum()
     }
 
     fn assumption(&self, cause: u32) -> usize {

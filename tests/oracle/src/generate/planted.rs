@@ -29,7 +29,8 @@ pub fn with_fault(rng: &mut Rng, fault: (u32, u32)) -> Ir {
     ir(vec![module])
 }
 
-fn module(rng: &mut Rng) -> Module {
+/// A module with up to four faults.
+pub fn module(rng: &mut Rng) -> Module {
     let mut module = sound(rng);
     for _ in 0..rng.of(&[0, 1, 1, 2, 3, 4]) {
         let fault = any_fault(rng);

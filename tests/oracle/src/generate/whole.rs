@@ -2,7 +2,7 @@
 //! limit or over it.
 
 use super::rng::Rng;
-use super::{limits, planted, valid, Document, LONGEST};
+use super::{crowded, limits, planted, valid, Document, LONGEST};
 use crate::encode::{itemise, Encoded};
 use crate::lang::ir::Ir;
 
@@ -14,6 +14,17 @@ pub fn small(rng: &mut Rng) -> Document {
 /// Mostly sound, so that the original's findings are few and of every kind.
 pub fn nearly_sound(rng: &mut Rng) -> Document {
     Document::whole("nearly sound", itemise(&planted::document(rng)))
+}
+
+/// Names repeated everywhere; many transitions, many modules, and seldom as
+/// many of both as there may be.
+pub fn crowded(rng: &mut Rng) -> Document {
+    let ir = match rng.below(40) {
+        0 => crowded::full(rng),
+        1..=19 => crowded::one(rng),
+        _ => crowded::sixteen(rng),
+    };
+    Document::whole("crowded", itemise(&ir))
 }
 
 pub fn middle(rng: &mut Rng) -> Document {

@@ -4,7 +4,7 @@ use Prim.Native.Nat.{_-_, _≤_}
 use lib.ListN.{length}
 use native.Mathlib.Omega.{arith}
 use borrow.Author.Needs.{needs}
-use Rattle.findings.proofs.MentionLaws.{RowsLeft, rows-start, rows-more, rows-done}
+use Rattle.findings.proofs.MentionLaws.{RowsLeft, rows-start, rows-more, rows-full, rows-done}
 use Rattle.findings.proofs.mentions.touch_rows.Statement.{statement}
 use Rattle.findings.proofs.mentions.touch_rows.Tie as tie
 
@@ -21,6 +21,9 @@ touch-rows-spec =
     Inv-loop
     μ-loop
     (λ c. (omega arith, omega arith, search rows-start))
+    (λ c κs. search needs)
+    (λ c. omega arith)
+    (λ c. search rows-full)
     (λ c κs. search needs)
     (λ c. omega arith)
     (λ c. omega arith)

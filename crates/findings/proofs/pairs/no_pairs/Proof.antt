@@ -1,16 +1,16 @@
--- None of those passed has a later one alike.
-use Prim.Native.Nat.{_-_}
+-- No two of those passed have one key, and their remainders are seen.
+use mathlib.Core.Logic.{⊎-elim}
 use native.Mathlib.Omega.{arith}
 use borrow.Author.Needs.{needs}
-use Rattle.findings.proofs.AlikeLaws.{PairsLeft, pairs-start, pairs-more, pairs-found, pairs-none}
+use Rattle.findings.proofs.RivalLaws.{PairsLeft, pairs-start, pairs-skip, pairs-more, pairs-found, pairs-none}
 use Rattle.findings.proofs.pairs.no_pairs.Statement.{statement}
 use Rattle.findings.proofs.pairs.no_pairs.Tie as tie
 
 abbrev Inv-loop : tie.InvT-loop
-Inv-loop doc rows prints count i₀ i = PairsLeft doc rows prints count i
+Inv-loop prints count seen₀ i₀ seen i = PairsLeft prints count i seen
 
 abbrev μ-loop : tie.MeasureT-loop
-μ-loop doc rows prints count i₀ i = count - i
+μ-loop prints count seen₀ i₀ seen i = i
 
 pub no-pairs-spec : {M : Type 1} → statement M
 no-pairs-spec =
@@ -19,9 +19,17 @@ no-pairs-spec =
     Inv-loop
     μ-loop
     (λ c. search pairs-start)
-    (λ c κs. search needs)
+    (λ c. omega arith)
+    (λ c. omega arith)
+    (λ c. omega arith)
+    (λ c. omega arith)
+    (λ c. omega arith)
+    (λ c. omega arith)
+    (λ c. omega arith)
+    (λ c. omega arith)
+    (λ c κs. omega arith)
     (λ c. search pairs-found)
     (λ c. omega arith)
     (λ c. omega arith)
-    (λ c. search pairs-more)
+    (λ c. ⊎-elim (λ w. search pairs-more) (λ w. search pairs-skip) (c .if1 .came))
     (λ c. search pairs-none))

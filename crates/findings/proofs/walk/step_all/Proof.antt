@@ -2,7 +2,7 @@
 use Prim.Native.Nat.{_-_, _≤_}
 use native.Mathlib.Omega.{arith}
 use borrow.Author.Needs.{needs}
-use Rattle.findings.specs.PairPromises.{LeadsTo}
+use Rattle.findings.specs.PairPromises.{LeadsOn}
 use Rattle.findings.specs.Reaching.{Swept}
 use Rattle.findings.proofs.ReachLaws.{sweep-none, sweep-full, sweep-more, sweep-all}
 use Rattle.findings.proofs.walk.step_all.Statement.{statement}
@@ -10,7 +10,7 @@ use Rattle.findings.proofs.walk.step_all.Tie as tie
 
 abbrev Inv-loop : tie.InvT-loop
 Inv-loop doc rows prints count p marks₀ queue₀ tail t₀ i₀ marks queue t i =
-    (i ≤ count) × Swept (LeadsTo doc rows prints p) count marks₀ queue₀ tail i marks queue t
+    (i ≤ count) × Swept (LeadsOn doc rows prints count p) count marks₀ queue₀ tail i marks queue t
 
 abbrev μ-loop : tie.MeasureT-loop
 μ-loop doc rows prints count p marks₀ queue₀ tail t₀ i₀ marks queue t i = count - i

@@ -1,7 +1,7 @@
 -- By its mark, and by where p leads.
 use borrow.Author.Needs.{needs}
 use native.Mathlib.Omega.{arith}
-use Rattle.findings.proofs.ReachLaws.{queue-room, step-was, step-no, step-yes}
+use Rattle.findings.proofs.ReachLaws.{queue-room, step-was, lead-no, lead-yes}
 use Rattle.findings.proofs.walk.step_one.Statement.{statement}
 use Rattle.findings.proofs.walk.step_one.Tie as tie
 
@@ -15,5 +15,5 @@ step-one-spec =
     (λ c κs. (omega arith, search queue-room))
     (λ c. search needs)
     (λ c. search needs)
-    (λ c. search step-yes)
-    (λ c. search step-no))
+    (λ c. search lead-yes)
+    (λ c. search lead-no))

@@ -1,8 +1,0 @@
--- States first, then patterns.
-use borrow.Author.Needs.{needs}
-use Rattle.findings.proofs.PairTests.{alike-same, alike-other}
-use Rattle.findings.proofs.pairs.alike_bytes.Statement.{statement}
-use Rattle.findings.proofs.pairs.alike_bytes.Tie as tie
-
-pub alike-bytes-spec : {M : Type 1} → statement M
-alike-bytes-spec = tie.close (tie.spec (λ c κs. search needs) (λ c κs. search needs) (λ c. search alike-same) (λ c. search alike-other))

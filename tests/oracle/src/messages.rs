@@ -1,0 +1,331 @@
+//! Documents of every kind with all that the program `offercheck` is to print
+//! for each, by the original: kept for a replay, and put to a program.
+
+use crate::decode::{answer, decode};
+use crate::encode::encode;
+use crate::generate::build::{bare, enum_decl, event, group, ir, step, text};
+use crate::generate::cases::{self, cases};
+use crate::generate::rng::Rng;
+use crate::generate::{deep, disturb, limits, planted, seeds, valid, whole, Source};
+use crate::lang::ir::{Ir, Module, Transition};
+use crate::lines::{print, LENT};
+use crate::original::findings;
+use crate::table::Table;
+use std::collections::{BTreeMap, HashSet};
+use std::io::{self, Read, Write};
+use std::path::Path;
+use std::process::{Command, Stdio};
+
+pub const FILE: &str = "messages.bin";
+
+/// The longest document but those whose length is what they show.
+const SHORT: usize = 1_200;
+
+/// The longest output.
+const SHORT_OUTPUT: usize = 6_000;
+
+/// A document and what is printed for it.
+pub struct Record {
+    pub bytes: Vec<u8>,
+    pub output: Vec<u8>,
+}
+
+/// What the program is to print for the document.
+pub fn output(doc: &[u8]) -> Vec<u8> {
+    let mut out = Vec::new();
+    print(doc, &mut out).expect("a vector takes all bytes");
+    out
+}
+
+/// So many documents, none twice: all seeds, cases and edges that are short,
+/// one over 65,535 bytes and one with too many findings; then one accepted
+/// document after another, with changes of one byte, and noise.
+pub fn records(count: usize, seed: u64) -> Vec<Record> {
+    let rng = &mut Rng::new(seed);
+    let mut kept = Kept::default();
+    for ir in seeds::seeds() {
+        kept.add(encode(&ir));
+    }
+    for case in cases() {
+        kept.add(encode(&case.ir));
+    }
+    for ir in cases::edges() {
+        kept.add(encode(&ir));
+    }
+    kept.keep(whole::full_of(rng, 65_536).bytes);
+    kept.keep(encode(&alike(82)));
+    let mut source = Source::new(seed);
+    while kept.records.len() < count {
+        let bytes = any_short(rng, &mut source, &kept.accepted);
+        kept.add(bytes);
+    }
+    kept.records
+}
+
+/// A document of any kind, mostly short.
+fn any_short(rng: &mut Rng, source: &mut Source, accepted: &[Vec<u8>]) -> Vec<u8> {
+    match rng.below(20) {
+        0..=8 => {
+            let fault = rng.of(&cases::pairs());
+            encode(&planted::with_fault(rng, fault))
+        }
+        9..=10 => {
+            let size = rng.between(0, 500);
+            encode(&valid::document(rng, size))
+        }
+        11..=16 => {
+            let base = rng.below(accepted.len());
+            changed(rng, &accepted[base])
+        }
+        17 => match rng.chance(1, 4) {
+            true => {
+                let base = rng.below(accepted.len());
+                unborn(rng, &accepted[base])
+            }
+            false => disturb::noise(rng).bytes,
+        },
+        18 => deep::deep(rng).bytes,
+        _ => source.next().bytes,
+    }
+}
+
+/// One byte changed.
+fn changed(rng: &mut Rng, bytes: &[u8]) -> Vec<u8> {
+    let mut bytes = bytes.to_vec();
+    let place = rng.below(bytes.len());
+    bytes[place] = match rng.below(3) {
+        0 => bytes[place] ^ (1 << rng.below(8)),
+        1 => bytes[place].wrapping_add(1),
+        _ => rng.byte(),
+    };
+    bytes
+}
+
+/// The document with an ir_version over 1.
+fn unborn(rng: &mut Rng, bytes: &[u8]) -> Vec<u8> {
+    let mut bytes = bytes.to_vec();
+    bytes[1] = rng.between(2, 23) as u8;
+    bytes
+}
+
+/// A module of so many transitions that differ in nothing but their ids: each
+/// pair is found.
+pub fn alike(transitions: usize) -> Ir {
+    ir(vec![Module {
+        enums: vec![enum_decl("State", &["A"])],
+        initial_state: Some(text("A")),
+        events: vec![group("E", Vec::new())],
+        transitions: (0..transitions)
+            .map(|id| Transition {
+                id,
+                pattern: event("E", None),
+                ..step("A", "E", "A")
+            })
+            .collect(),
+        ..bare("M")
+    }])
+}
+
+#[derive(Default)]
+struct Kept {
+    records: Vec<Record>,
+    seen: HashSet<Vec<u8>>,
+    accepted: Vec<Vec<u8>>,
+}
+
+impl Kept {
+    /// Keeps a document that is short, and whose output is.
+    fn add(&mut self, bytes: Vec<u8>) {
+        if bytes.len() <= SHORT && output(&bytes).len() <= SHORT_OUTPUT {
+            self.keep(bytes);
+        }
+    }
+
+    fn keep(&mut self, bytes: Vec<u8>) {
+        if !self.seen.insert(bytes.clone()) {
+            return;
+        }
+        if decode(&bytes).is_ok() && bytes.len() <= SHORT {
+            self.accepted.push(bytes.clone());
+        }
+        let output = output(&bytes);
+        self.records.push(Record { bytes, output });
+    }
+}
+
+/// The file: for each record the length of the document as u32, the document,
+/// the length of the output as u32 and the output, little-endian.
+pub fn file(records: &[Record]) -> Vec<u8> {
+    let mut file = Vec::new();
+    for part in records.iter().flat_map(|r| [&r.bytes, &r.output]) {
+        file.extend((part.len() as u32).to_le_bytes());
+        file.extend(part);
+    }
+    file
+}
+
+/// How often each site is found with each cause in what is printed.
+pub fn table(records: &[Record]) -> Table {
+    let mut table = Table::default();
+    for record in records {
+        if class(&record.bytes).starts_with("accepted") {
+            let ir = decode(&record.bytes).expect("it is accepted");
+            let words = crate::sites::findings(&ir).words();
+            table.count(&ir, record.bytes.len(), &words);
+        }
+    }
+    table
+}
+
+/// The kinds of answer.
+const CLASSES: [&str; 14] = [
+    "accepted, no finding",
+    "accepted, errors",
+    "accepted, warnings",
+    "accepted, both",
+    "refused 1",
+    "refused 2",
+    "refused 3",
+    "refused 4",
+    "refused 5",
+    "refused 6",
+    "refused 7",
+    "refused 8",
+    "refused 9",
+    "short sheet",
+];
+
+/// The kind of answer that is due.
+fn class(doc: &[u8]) -> &'static str {
+    let decoded = decode(doc);
+    let Ok(ir) = &decoded else {
+        return CLASSES[3 + answer(&decoded).0 as usize];
+    };
+    let found = findings(ir);
+    match (found.errors.len(), found.warnings.len()) {
+        (errors, warnings) if 5 * (errors + warnings) > LENT => CLASSES[13],
+        (0, 0) => CLASSES[0],
+        (_, 0) => CLASSES[1],
+        (0, _) => CLASSES[2],
+        _ => CLASSES[3],
+    }
+}
+
+/// Counts by kind of answer.
+pub fn classes(records: &[Record]) -> BTreeMap<&'static str, usize> {
+    let mut classes = BTreeMap::new();
+    for record in records {
+        *classes.entry(class(&record.bytes)).or_default() += 1;
+    }
+    classes
+}
+
+/// Each kind of answer is there.
+pub fn is_whole(records: &[Record]) -> bool {
+    classes(records).len() == CLASSES.len() && table(records).is_whole()
+}
+
+pub fn report(records: &[Record]) {
+    table(records).print();
+    println!();
+    for (class, count) in classes(records) {
+        println!("{class:<22} {count:>8}");
+    }
+    println!("{:<22} {:>8}", "all", records.len());
+}
+
+/// So many documents put to a program through pipes. True if it prints what
+/// is due for each, and, from 2,000 documents on, each kind of answer came.
+pub fn program(path: &Path, count: usize, seed: u64) -> Result<bool, String> {
+    let rng = &mut Rng::new(!seed);
+    let mut source = Source::new(seed);
+    let mut seen: BTreeMap<&str, [usize; 2]> = BTreeMap::new();
+    let mut failed = 0;
+    for number in 0..count {
+        let doc = any(rng, &mut source, number);
+        let (due, given) = (output(&doc), run(path, &doc)?);
+        let class = seen.entry(class(&doc)).or_default();
+        class[0] += 1;
+        class[1] += usize::from(due == given);
+        if due != given {
+            failed += 1;
+            if failed <= 5 {
+                show(&doc, &due, &given);
+            }
+        }
+    }
+    println!("{:<22} {:>9} {:>9}", "answer", "documents", "agreed");
+    let mut all = [0, 0];
+    for (class, counts) in &seen {
+        println!("{class:<22} {:>9} {:>9}", counts[0], counts[1]);
+        all = [all[0] + counts[0], all[1] + counts[1]];
+    }
+    println!("{:<22} {:>9} {:>9}", "all", all[0], all[1]);
+    let whole = count < 2_000 || seen.len() == CLASSES.len();
+    if !whole {
+        println!("a kind of answer never came");
+    }
+    Ok(failed == 0 && whole)
+}
+
+/// A document of any kind and size. Some have nearly as many findings as the
+/// words hold, or a few more.
+fn any(rng: &mut Rng, source: &mut Source, number: usize) -> Vec<u8> {
+    match number % 200 {
+        0 => whole::bulky(rng).bytes,
+        1 => encode(&alike(rng.of(&[80, 81, 82, 83, 255]))),
+        2 => whole::crowded(rng).bytes,
+        3 => {
+            let list = rng.of(&limits::LISTS);
+            encode(&(list.with)(list.limit))
+        }
+        4 => {
+            let base = whole::small(rng).bytes;
+            unborn(rng, &base)
+        }
+        _ => match rng.below(4) {
+            0 => source.next().bytes,
+            1 => whole::nearly_sound(rng).bytes,
+            2 => {
+                let base = whole::nearly_sound(rng).bytes;
+                changed(rng, &base)
+            }
+            _ => {
+                let fault = rng.of(&cases::pairs());
+                encode(&planted::with_fault(rng, fault))
+            }
+        },
+    }
+}
+
+fn show(doc: &[u8], due: &[u8], given: &[u8]) {
+    let hex: Vec<String> = doc.iter().map(|b| format!("{b:02x}")).collect();
+    let text = String::from_utf8_lossy;
+    println!(
+        "{}\ndue:\n{}given:\n{}",
+        hex.join(" "),
+        text(due),
+        text(given)
+    );
+}
+
+/// What the program prints when it reads the document to its end. It must end
+/// by itself; it need not read more bytes than a document may have.
+pub fn run(path: &Path, doc: &[u8]) -> Result<Vec<u8>, String> {
+    let failed = |e: io::Error| format!("{}: {e}", path.display());
+    let mut command = Command::new(path);
+    let piped = command.stdin(Stdio::piped()).stdout(Stdio::piped());
+    let mut child = piped.spawn().map_err(failed)?;
+    let mut input = child.stdin.take().expect("it is piped");
+    let mut output = child.stdout.take().expect("it is piped");
+    let mut given = Vec::new();
+    std::thread::scope(|scope| {
+        scope.spawn(move || input.write_all(doc));
+        output.read_to_end(&mut given)
+    })
+    .map_err(failed)?;
+    match child.wait().map_err(failed)?.code() {
+        Some(_) => Ok(given),
+        None => Err(format!("{} was ended by a signal", path.display())),
+    }
+}
