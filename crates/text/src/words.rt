@@ -113,7 +113,7 @@ pub(crate) fn say_in(doc: &[u8], at: usize, site: u32, i: usize, j: usize) -> Sa
 }
 
 // The place of module number k.
-pub(crate) fn module_at(doc: &[u8], k: usize) -> Found
+pub fn module_at(doc: &[u8], k: usize) -> Found
     ensures { λ r. ⌜ ModuleAt (now (doc .entry)) k r ⌝ }
 {
     let version = after_head(doc, 0);

@@ -151,7 +151,7 @@ impl Class {
 }
 
 /// Two digits a byte, with spaces between.
-fn hex(bytes: &[u8]) -> String {
+pub fn hex(bytes: &[u8]) -> String {
     let digits: Vec<String> = bytes.iter().map(|b| format!("{b:02x}")).collect();
     digits.join(" ")
 }

@@ -24,6 +24,7 @@ mod sites;
 mod table;
 #[cfg(test)]
 mod tests;
+mod told;
 mod vectors;
 
 /// The original sources, compiled where they stand.
@@ -56,6 +57,7 @@ const USAGE: &str = "usage:
                             print what the replay is to print
   oracle compare [N [SEED]] the library beside the decoder on N documents
   oracle findings [N [SEED]] its findings beside the original's on N documents
+  oracle told [N [SEED]]     its messages beside the original's on N documents
   oracle sweep              the same on every small change of small documents
   oracle bench              time of the library beside the decoder
   oracle typing PROGRAM DIR time of typing beside reading, by the replay's program
@@ -98,6 +100,9 @@ fn main() -> ExitCode {
         ["findings"] => found(100_000, 1),
         ["findings", count] => number(count).and_then(|n| found(n, 1)),
         ["findings", count, seed] => number(count).and_then(|n| found(n, number(seed)?)),
+        ["told"] => told(20_000, 1),
+        ["told", count] => number(count).and_then(|n| told(n, 1)),
+        ["told", count, seed] => number(count).and_then(|n| told(n, number(seed)?)),
         ["sweep"] => sweep(),
         ["bench"] => library().and_then(|read| Ok(bench::bench(read, finder()?))),
         ["typing", program, dir] => bench::typing(Path::new(program), Path::new(dir)),
@@ -144,6 +149,11 @@ fn finder() -> Result<offer::Finder, String> {
 
 fn found(count: usize, seed: u64) -> Done {
     agreed(found::compare(finder()?, count, seed))
+}
+
+fn told(count: usize, seed: u64) -> Done {
+    let tell = offer::TELLER.ok_or(NO_LIBRARY.to_string())?;
+    agreed(told::compare(tell, count, seed))
 }
 
 fn sweep() -> Done {
