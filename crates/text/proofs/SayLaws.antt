@@ -4,7 +4,7 @@ use mathlib.Core.Path.{_≡_, refl, sym, ap, subst, _∙_}
 use mathlib.Core.List.{List}
 use mathlib.Core.Option.{Option, none}
 use native.Mathlib.Omega.{arith}
-use lib.ListN.{length, take, getElem?, List·getD-eq-default}
+use lib.ListN.{length, take, List·getD-eq-default}
 use Rattle.reading.specs.Module.{Module}
 use Rattle.reading.specs.Transition.{Transition}
 use Rattle.typing.specs.declared.table.Found.{Found}

@@ -187,12 +187,26 @@ pub(crate) fn say<'a>(
     ensures { λ _. ⌜ length (now (table .exit)) ≡ length (now (table .entry)) ⌝ }
     ensures { λ _. ⌜ take (2 * vars) (now (table .exit)) ≡ take (2 * vars) (now (table .entry)) ⌝ }
 {
-    if 6 <= site {
-        if site <= 13 {
-            return say_own(doc, places, rows, count, table, vars, enums, site, i, j);
-        }
-    }
     let k = 2 * (vars as usize);
+    if site < 6 {
+        let names = &table[0..k];
+        return say_plain(
+            doc,
+            places,
+            rows,
+            count,
+            found,
+            names,
+            enums,
+            claims,
+            site,
+            i,
+            j,
+        );
+    }
+    if site <= 13 {
+        return say_own(doc, places, rows, count, table, vars, enums, site, i, j);
+    }
     let names = &table[0..k];
     say_plain(
         doc,
