@@ -2,6 +2,8 @@
 use crate::entry::entry_of;
 use crate::said::Said;
 use crate::say::say;
+use crate::site::put_said;
+use crate::told::Told;
 use findings::Ready;
 use findings::name_module;
 use findings::open_module;
@@ -11,8 +13,10 @@ use typing::after_head;
 ghost use mathlib.Core.Path.{_≡_};
 ghost use Prim.Native.Nat.{_*_, _≤_};
 ghost use lib.ListN.{length, take};
-ghost use Rattle.text.specs.Message.{saying};
+ghost use Rattle.text.specs.Message.{saying, sayingText};
+ghost use Rattle.text.specs.Said.{sayingOf};
 ghost use Rattle.text.specs.Says.{Named, Says, SaysIn, ModuleAt, SaysWords};
+ghost use Rattle.text.specs.Told.{sized, filled};
 
 // What is said by the tables of a module, of which so many words are in use.
 pub(crate) fn say_named<'a>(
@@ -130,4 +134,19 @@ pub(crate) fn say_words(doc: &[u8], owner: usize, site: u32, i: usize, j: usize)
         return Said::Nothing;
     };
     say_in(doc, at, site, i, j)
+}
+
+// Writes what is said, if out has room for it.
+pub(crate) fn write(doc: &[u8], site: u32, x: Said, out: &mut [u8]) -> Told
+    requires { ⌜ length (now doc) ≤ 0xffff ⌝ }
+    ensures { λ r. ⌜ r ≡ sized (now (out .entry)) (sayingText site (sayingOf (now (doc .entry)) x)) ⌝ }
+    ensures { λ _. ⌜ now (out .exit) ≡ filled (now (out .entry)) (sayingText site (sayingOf (now (doc .entry)) x)) ⌝ }
+{
+    let mut spare = [0u8; 1];
+    let n = put_said(&mut spare, 0, doc, site, x);
+    if out.len() < n {
+        return Told::Short(n);
+    }
+    let w = put_said(out, 0, doc, site, x);
+    Told::Written(w)
 }
