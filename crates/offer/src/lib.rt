@@ -88,7 +88,12 @@ pub extern "C" fn offer_findings(doc: &[u8], words: &mut [u32], answer: &mut [u6
 // The message of one finding of a document, by its number: 0 where it was written, and `answer` takes its length and 0; else the
 // refusal's number, `answer` takes its place and 0, and no byte is changed.
 #[no_mangle]
-pub extern "C" fn offer_message(doc: &[u8], number: u64, out: &mut [u8], answer: &mut [u64; 2]) -> u32
+pub extern "C" fn offer_message(
+    doc: &[u8],
+    number: u64,
+    out: &mut [u8],
+    answer: &mut [u64; 2],
+) -> u32
     ensures { λ r. ⌜ r ≡ told.numberOf (toldOf number (now (out .entry)) (readDocument (now (doc .entry)))) ⌝ }
     ensures { λ _. ⌜ now (out .exit) ≡ textOf number (now (out .entry)) (readDocument (now (doc .entry))) ⌝ }
     ensures { λ _. ⌜ now (answer .exit) ≡ told.placeOf (toldOf number (now (out .entry)) (readDocument (now (doc .entry)))) ∷ 0 ∷ [] ⌝ }

@@ -106,7 +106,19 @@ fn print_run<'a>(
             return i;
         }
         at = put_line(
-            doc, words, errors, i, places, rows, count, known, table, enums, claims, page, at,
+            doc,
+            words,
+            errors,
+            i,
+            places,
+            rows,
+            count,
+            known,
+            table,
+            enums,
+            claims,
+            page,
+            at,
         );
         if 49152 < at {
             print_page(page, at);

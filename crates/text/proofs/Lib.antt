@@ -22,3 +22,4 @@ pub mod VariantLaws
 pub mod SayLaws
 pub mod WordsLaws
 pub mod ToldLaws
+pub mod FindingLaws

@@ -6,6 +6,7 @@ mod blame;
 mod cause;
 mod decimal;
 mod entry;
+mod finding;
 mod fore;
 mod form;
 mod out;
@@ -19,6 +20,31 @@ mod told;
 mod transition;
 mod words;
 
-pub use said::Arg;
-pub use said::Said;
+pub use finding::put_finding;
+use findings::Line;
+use findings::finding_at;
+pub use out::put_bytes;
 pub use told::Told;
+pub use words::module_at;
+use words::say_words;
+use words::write;
+ghost use mathlib.Core.Path.{_≡_};
+ghost use Rattle.reading.specs.Document.{readDocument};
+ghost use Rattle.text.specs.Told.{toldOf, textOf};
+
+// Message number k of a document, into the front of the lent bytes; the bytes past it keep their contents. Nothing is written where
+// the document is refused, there is no such message, or the bytes are too few.
+pub fn message(doc: &[u8], k: usize, out: &mut [u8]) -> Told
+    ensures { λ r. ⌜ r ≡ toldOf k (now (out .entry)) (readDocument (now (doc .entry))) ⌝ }
+    ensures { λ _. ⌜ now (out .exit) ≡ textOf k (now (out .entry)) (readDocument (now (doc .entry))) ⌝ }
+{
+    let line = finding_at(doc, k);
+    match line {
+        Line::Words(owner, site, first, second, _) => {
+            let x = say_words(doc, owner as usize, site, first as usize, second as usize);
+            write(doc, site, x, out)
+        }
+        Line::Refused(fault, place) => Told::Refused(fault, place),
+        Line::Missing(_) => Told::Missing(k),
+    }
+}

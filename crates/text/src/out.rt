@@ -25,7 +25,7 @@ pub(crate) fn put_byte(out: &mut [u8], at: usize, b: u8) -> usize
 }
 
 // Puts part into out from at on, as far as out reaches; the place after it.
-pub(crate) fn put_bytes(out: &mut [u8], at: usize, part: &[u8]) -> usize
+pub fn put_bytes(out: &mut [u8], at: usize, part: &[u8]) -> usize
     requires { ⌜ at ≤ 0xffff_ffff ⌝ }
     ensures { λ r. ⌜ Put (now (out .entry)) at (now (part .entry)) r (now (out .exit)) ⌝ }
 {

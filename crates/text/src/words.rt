@@ -2,6 +2,8 @@
 use crate::entry::entry_of;
 use crate::said::Said;
 use crate::say::say;
+use crate::site::put_said;
+use crate::told::Told;
 use findings::Ready;
 use findings::name_module;
 use findings::open_module;
@@ -11,8 +13,10 @@ use typing::after_head;
 ghost use mathlib.Core.Path.{_≡_};
 ghost use Prim.Native.Nat.{_*_, _≤_};
 ghost use lib.ListN.{length, take};
-ghost use Rattle.text.specs.Message.{saying};
+ghost use Rattle.text.specs.Message.{saying, sayingText};
+ghost use Rattle.text.specs.Said.{sayingOf};
 ghost use Rattle.text.specs.Says.{Named, Says, SaysIn, ModuleAt, SaysWords};
+ghost use Rattle.text.specs.Told.{sized, filled};
 
 // What is said by the tables of a module, of which so many words are in use.
 pub(crate) fn say_named<'a>(
@@ -32,6 +36,8 @@ pub(crate) fn say_named<'a>(
     requires { ⌜ known .enums ≤ length (now enums) ⌝ }
     requires { ⌜ known .claims ≤ length (now claims) ⌝ }
     ensures { λ r. ⌜ Says (Named (now (doc .entry)) (now (places .entry)) (now (rows .entry)) count known (now (table .entry)) (now (enums .entry)) (now (claims .entry))) (now (doc .entry)) (saying site i j) r ⌝ }
+    ensures { λ _. ⌜ length (now (table .exit)) ≡ length (now (table .entry)) ⌝ }
+    ensures { λ _. ⌜ take (2 * known .vars) (now (table .exit)) ≡ take (2 * known .vars) (now (table .entry)) ⌝ }
 {
     let found = known.found;
     let a = known.enums;
@@ -132,33 +138,17 @@ pub(crate) fn say_words(doc: &[u8], owner: usize, site: u32, i: usize, j: usize)
     say_in(doc, at, site, i, j)
 }
 
-// Puts the message of a finding into lent bytes, by the tables of its module; the place after it.
-pub fn put_finding<'a>(
-    doc: &'a [u8],
-    places: &'a [usize],
-    rows: &'a [usize],
-    count: u8,
-    known: Ready,
-    table: &mut [usize],
-    enums: &'a [usize],
-    claims: &'a [usize],
-    site: u32,
-    i: usize,
-    j: usize,
-    out: &mut [u8],
-    at: usize,
-) -> usize
+// Writes what is said, if out has room for it.
+pub(crate) fn write(doc: &[u8], site: u32, x: Said, out: &mut [u8]) -> Told
     requires { ⌜ length (now doc) ≤ 0xffff ⌝ }
-    requires { ⌜ 1020 ≤ length (now table) ⌝ }
-    requires { ⌜ known .enums ≤ length (now enums) ⌝ }
-    requires { ⌜ known .claims ≤ length (now claims) ⌝ }
-    requires { ⌜ at ≤ 0x1_0000 ⌝ }
-    ensures { λ r. ⌜ PutsFinding (Named (now (doc .entry)) (now (places .entry)) (now (rows .entry)) count known (now (table .entry)) (now (enums .entry)) (now (claims .entry))) site i j (now (out .entry)) at r (now (out .exit)) ⌝ }
-    ensures { λ _. ⌜ length (now (table .exit)) ≡ length (now (table .entry)) ⌝ }
-    ensures { λ _. ⌜ take (2 * known .vars) (now (table .exit)) ≡ take (2 * known .vars) (now (table .entry)) ⌝ }
-    ensures { λ _. ⌜ length (now (out .exit)) ≡ length (now (out .entry)) ⌝ }
-    ensures { λ r. ⌜ r ≤ at + 0xf0_0000 ⌝ }
+    ensures { λ r. ⌜ r ≡ sized (now (out .entry)) (sayingText site (sayingOf (now (doc .entry)) x)) ⌝ }
+    ensures { λ _. ⌜ now (out .exit) ≡ filled (now (out .entry)) (sayingText site (sayingOf (now (doc .entry)) x)) ⌝ }
 {
-    let x = say_named(doc, places, rows, count, known, table, enums, claims, site, i, j);
-    put_said(out, at, doc, site, x)
+    let mut spare = [0u8; 1];
+    let n = put_said(&mut spare, 0, doc, site, x);
+    if out.len() < n {
+        return Told::Short(n);
+    }
+    let w = put_said(out, 0, doc, site, x);
+    Told::Written(w)
 }

@@ -12,9 +12,6 @@ say-named-requires c κs =
     let e = n .name-module .ensures in
     (omega (arith, p .1 .1 .0), (omega (arith, p .1 .1 .1 .0, e .1 .1 .0), omega (arith, p .1 .1 .1 .1, e .1 .1 .1)))
 
-returns : tie.Need-returns
-returns c = search opened-said
-
 pub say-opened-spec : {M : Type 1} → statement M
 say-opened-spec =
     tie.close
@@ -27,4 +24,4 @@ say-opened-spec =
     (λ c. search needs)
     (λ c. search needs)
     (λ c. search needs)
-    returns)
+    (λ c. search opened-said))

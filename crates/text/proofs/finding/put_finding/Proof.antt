@@ -1,0 +1,15 @@
+-- What is said is what is put.
+use borrow.Author.Needs.{needs}
+use Rattle.text.proofs.FindingLaws.{finding-put, put-length}
+use Rattle.text.proofs.finding.put_finding.Statement.{statement}
+use Rattle.text.proofs.finding.put_finding.Tie as tie
+
+pub put-finding-spec : {M : Type 1} → statement M
+put-finding-spec =
+    tie.close
+    (tie.spec
+    (λ c κs. search needs)
+    (λ c κs. search needs)
+    (λ c. search needs)
+    (λ c. search needs)
+    (λ c. (search finding-put, (search needs, (search needs, (search put-length, search needs))))))
