@@ -50,24 +50,44 @@ module _ (m : Reply) {r : Reply} (q : r ≡ m) where
 
 -- those of the message call: a number, and its place before 0
 module _ (m : Told) {r : Told} (q : r ≡ m) where
-  abbrev Words : ℕ → List ℕ → Type 0
-  Words v a = (v ≡ told.numberOf m) × (a ≡ placeOf m ∷ 0 ∷ [])
+  told-number : {t : Told} {v : ℕ} → r ≡ t → v ≡ told.numberOf t → v ≡ told.numberOf m
+  told-number k e = e ∙ sym (ap told.numberOf (sym q ∙ k))
 
-  as-told : {t : Told} {v : ℕ} {a : List ℕ} → r ≡ t → (v ≡ told.numberOf t) × (a ≡ placeOf t ∷ 0 ∷ []) → Words v a
-  as-told k w = (w .0 ∙ sym (ap told.numberOf (sym q ∙ k)), w .1 ∙ sym (ap (λ (z : Told). placeOf z ∷ 0 ∷ []) (sym q ∙ k)))
+  told-place : {t : Told} {a : List ℕ} → r ≡ t → a ≡ placeOf t ∷ 0 ∷ [] → a ≡ placeOf m ∷ 0 ∷ []
+  told-place k l = l ∙ sym (ap (λ (z : Told). placeOf z ∷ 0 ∷ []) (sym q ∙ k))
 
-  pub written-words : {n : ℕ} {a : List ℕ} → r ≡ answer.Written n → a ≡ n ∷ 0 ∷ [] → Words 0 a
-  unfolding told.numberOf placeOf
-  written-words k l = as-told k (refl, l)
+  module _ {n : ℕ} (k : r ≡ answer.Written n) where
+    pub written-number : 0 ≡ told.numberOf m
+    unfolding told.numberOf
+    written-number = told-number k refl
 
-  pub untold-words : {f : Fault} {p v : ℕ} {a : List ℕ} → r ≡ answer.Refused f p → v ≡ number f → a ≡ p ∷ 0 ∷ [] → Words v a
-  unfolding told.numberOf placeOf
-  untold-words k e l = as-told k (e, l)
+    pub written-place : {a : List ℕ} → a ≡ n ∷ 0 ∷ [] → a ≡ placeOf m ∷ 0 ∷ []
+    unfolding placeOf
+    written-place l = told-place k l
 
-  pub missing-words : {n : ℕ} {a : List ℕ} → r ≡ answer.Missing n → a ≡ n ∷ 0 ∷ [] → Words 11 a
-  unfolding told.numberOf placeOf
-  missing-words k l = as-told k (refl, l)
+  module _ {f : Fault} {p : ℕ} (k : r ≡ answer.Refused f p) where
+    pub untold-number : {v : ℕ} → v ≡ number f → v ≡ told.numberOf m
+    unfolding told.numberOf
+    untold-number e = told-number k e
 
-  pub short-line-words : {n : ℕ} {a : List ℕ} → r ≡ answer.Short n → a ≡ n ∷ 0 ∷ [] → Words 12 a
-  unfolding told.numberOf placeOf
-  short-line-words k l = as-told k (refl, l)
+    pub untold-place : {a : List ℕ} → a ≡ p ∷ 0 ∷ [] → a ≡ placeOf m ∷ 0 ∷ []
+    unfolding placeOf
+    untold-place l = told-place k l
+
+  module _ {n : ℕ} (k : r ≡ answer.Missing n) where
+    pub missing-number : 11 ≡ told.numberOf m
+    unfolding told.numberOf
+    missing-number = told-number k refl
+
+    pub missing-place : {a : List ℕ} → a ≡ n ∷ 0 ∷ [] → a ≡ placeOf m ∷ 0 ∷ []
+    unfolding placeOf
+    missing-place l = told-place k l
+
+  module _ {n : ℕ} (k : r ≡ answer.Short n) where
+    pub short-line-number : 12 ≡ told.numberOf m
+    unfolding told.numberOf
+    short-line-number = told-number k refl
+
+    pub short-line-place : {a : List ℕ} → a ≡ n ∷ 0 ∷ [] → a ≡ placeOf m ∷ 0 ∷ []
+    unfolding placeOf
+    short-line-place l = told-place k l
