@@ -19,6 +19,68 @@ fn word_at(words: &[u32], k: usize) -> u32 {
     0
 }
 
+// Puts what a line begins with.
+fn start_line(page: &mut [u8], at: usize, warning: bool) -> usize
+    requires { ⌜ at ≤ 0xc000 ⌝ }
+    ensures { λ r. ⌜ r ≤ at + 9 ⌝ }
+{
+    if warning {
+        return put_bytes(page, at, b"warning: ");
+    }
+    at
+}
+
+// Puts what a line ends in.
+fn end_line(page: &mut [u8], at: usize) -> usize
+    requires { ⌜ at ≤ 0xff_ffff ⌝ }
+    ensures { λ r. ⌜ r ≤ at + 1 ⌝ }
+{
+    put_bytes(page, at, b"\n")
+}
+
+// Puts the message of finding number i.
+fn put_words<'a>(
+    doc: &'a [u8],
+    words: &'a [u32],
+    i: usize,
+    places: &'a [usize],
+    rows: &'a [usize],
+    count: u8,
+    known: Ready,
+    table: &mut [usize],
+    enums: &'a [usize],
+    claims: &'a [usize],
+    page: &mut [u8],
+    at: usize,
+) -> usize
+    requires { ⌜ length (now doc) ≤ 0xffff ⌝ }
+    requires { ⌜ i ≤ 0xffff ⌝ }
+    requires { ⌜ 1020 ≤ length (now table) ⌝ }
+    requires { ⌜ known .enums ≤ length (now enums) ⌝ }
+    requires { ⌜ known .claims ≤ length (now claims) ⌝ }
+    requires { ⌜ at ≤ 0x1_0000 ⌝ }
+    ensures { λ r. ⌜ r ≤ at + 0x7b_0000 ⌝ }
+{
+    let site = word_at(words, 5 * i + 1);
+    let first = word_at(words, 5 * i + 2);
+    let second = word_at(words, 5 * i + 3);
+    put_finding(
+        doc,
+        places,
+        rows,
+        count,
+        known,
+        table,
+        enums,
+        claims,
+        site,
+        first as usize,
+        second as usize,
+        page,
+        at,
+    )
+}
+
 // Puts the line of finding number i: so many findings are errors.
 fn put_line<'a>(
     doc: &'a [u8],
@@ -36,24 +98,18 @@ fn put_line<'a>(
     at: usize,
 ) -> usize
     requires { ⌜ length (now doc) ≤ 0xffff ⌝ }
-    requires { ⌜ i ≤ 0xffff_ffff ⌝ }
+    requires { ⌜ i ≤ 0xffff ⌝ }
     requires { ⌜ 1020 ≤ length (now table) ⌝ }
     requires { ⌜ known .enums ≤ length (now enums) ⌝ }
     requires { ⌜ known .claims ≤ length (now claims) ⌝ }
-    requires { ⌜ at ≤ 0xffff ⌝ }
-    ensures { λ _. ⌜ length (now (table .exit)) ≡ length (now (table .entry)) ⌝ }
-    ensures { λ _. ⌜ length (now (page .exit)) ≡ length (now (page .entry)) ⌝ }
-    ensures { λ r. ⌜ r ≤ at + 0x100_0000 ⌝ }
+    requires { ⌜ at ≤ 0xc000 ⌝ }
+    ensures { λ r. ⌜ r ≤ at + 0x80_0000 ⌝ }
 {
-    let mut k = at;
-    if errors <= i {
-        k = put_bytes(page, k, b"warning: ");
-    }
-    let site = word_at(words, 5 * i + 1);
-    let first = word_at(words, 5 * i + 2);
-    let second = word_at(words, 5 * i + 3);
-    let end = put_finding(
+    let k = start_line(page, at, errors <= i);
+    let end = put_words(
         doc,
+        words,
+        i,
         places,
         rows,
         count,
@@ -61,13 +117,21 @@ fn put_line<'a>(
         table,
         enums,
         claims,
-        site,
-        first as usize,
-        second as usize,
         page,
         k,
     );
-    put_bytes(page, end, b"\n")
+    end_line(page, end)
+}
+
+// Prints a page that is nearly full; where the next line starts.
+fn turned(page: &[u8], end: usize) -> usize
+    ensures { λ r. ⌜ r ≤ 0xc000 ⌝ }
+{
+    if 49152 < end {
+        print_page(page, end);
+        return 0;
+    }
+    end
 }
 
 // The lines of the findings from number k on, as many as there are of the module whose number stands there and whose tables are filled;
@@ -93,8 +157,6 @@ fn print_run<'a>(
     requires { ⌜ 1020 ≤ length (now table) ⌝ }
     requires { ⌜ known .enums ≤ length (now enums) ⌝ }
     requires { ⌜ known .claims ≤ length (now claims) ⌝ }
-    ensures { λ _. ⌜ length (now (table .exit)) ≡ length (now (table .entry)) ⌝ }
-    ensures { λ _. ⌜ length (now (page .exit)) ≡ length (now (page .entry)) ⌝ }
     ensures { λ r. ⌜ r ≤ 0xffff ⌝ }
 {
     let owner = word_at(words, 5 * k);
@@ -105,7 +167,7 @@ fn print_run<'a>(
             print_page(page, at);
             return i;
         }
-        at = put_line(
+        let end = put_line(
             doc,
             words,
             errors,
@@ -120,20 +182,58 @@ fn print_run<'a>(
             page,
             at,
         );
-        if 49152 < at {
-            print_page(page, at);
-            at = 0;
-        }
+        at = turned(page, end);
         i += 1;
     }
     print_page(page, at);
     i
 }
 
-// The same, where the tables are yet to be filled.
-fn print_module(
-    doc: &[u8],
-    words: &[u32],
+// The same, where the tables of names are yet to be filled.
+fn print_named<'a>(
+    doc: &'a [u8],
+    words: &'a [u32],
+    errors: usize,
+    all: usize,
+    k: usize,
+    places: &'a [usize],
+    rows: &'a [usize],
+    count: u8,
+    table: &mut [usize],
+    enums: &mut [usize],
+    claims: &mut [usize],
+    page: &mut [u8],
+) -> usize
+    requires { ⌜ length (now doc) ≤ 0xffff ⌝ }
+    requires { ⌜ all ≤ 0xffff ⌝ }
+    requires { ⌜ k ≤ 0xffff ⌝ }
+    requires { ⌜ 1020 ≤ length (now table) ⌝ }
+    requires { ⌜ 510 ≤ length (now enums) ⌝ }
+    requires { ⌜ length (now claims) ≡ 1020 ⌝ }
+    ensures { λ r. ⌜ r ≤ 0xffff ⌝ }
+{
+    let known = name_module(doc, places, table, enums, claims);
+    print_run(
+        doc,
+        words,
+        errors,
+        all,
+        k,
+        places,
+        rows,
+        count,
+        known,
+        table,
+        enums,
+        claims,
+        page,
+    )
+}
+
+// The same, where no table is filled yet.
+fn print_module<'a>(
+    doc: &'a [u8],
+    words: &'a [u32],
     errors: usize,
     all: usize,
     k: usize,
@@ -152,21 +252,17 @@ fn print_module(
     requires { ⌜ 1020 ≤ length (now table) ⌝ }
     requires { ⌜ 510 ≤ length (now enums) ⌝ }
     requires { ⌜ length (now claims) ≡ 1020 ⌝ }
-    ensures { λ _. ⌜ length (now (places .exit)) ≡ length (now (places .entry)) ⌝ }
-    ensures { λ _. ⌜ length (now (rows .exit)) ≡ length (now (rows .entry)) ⌝ }
-    ensures { λ _. ⌜ length (now (table .exit)) ≡ length (now (table .entry)) ⌝ }
-    ensures { λ _. ⌜ length (now (enums .exit)) ≡ length (now (enums .entry)) ⌝ }
-    ensures { λ _. ⌜ length (now (claims .exit)) ≡ length (now (claims .entry)) ⌝ }
-    ensures { λ _. ⌜ length (now (page .exit)) ≡ length (now (page .entry)) ⌝ }
     ensures { λ r. ⌜ r ≤ 0xffff ⌝ }
 {
+    if all <= k {
+        return all;
+    }
     let f = module_at(doc, word_at(words, 5 * k) as usize);
     let Found::At(at) = f else {
         return all;
     };
     let listed = open_module(doc, at, places, rows);
-    let known = name_module(doc, places, table, enums, claims);
-    print_run(
+    print_named(
         doc,
         words,
         errors,
@@ -175,7 +271,6 @@ fn print_module(
         places,
         rows,
         listed.count,
-        known,
         table,
         enums,
         claims,
@@ -184,7 +279,7 @@ fn print_module(
 }
 
 // The lines of all findings: each turn prints at least one.
-pub(crate) fn print_findings(doc: &[u8], words: &[u32], errors: u64, warnings: u64) {
+pub(crate) fn print_findings<'a>(doc: &'a [u8], words: &'a [u32], errors: u64, warnings: u64) {
     if 65535 < doc.len() {
         return;
     }
@@ -204,21 +299,19 @@ pub(crate) fn print_findings(doc: &[u8], words: &[u32], errors: u64, warnings: u
     let mut k: usize = 0;
     let mut turns: usize = 0;
     while turns < all {
-        if k < all {
-            k = print_module(
-                doc,
-                words,
-                errors as usize,
-                all,
-                k,
-                &mut places,
-                &mut rows,
-                &mut table,
-                &mut enums,
-                &mut claims,
-                &mut page,
-            );
-        }
+        k = print_module(
+            doc,
+            words,
+            errors as usize,
+            all,
+            k,
+            &mut places,
+            &mut rows,
+            &mut table,
+            &mut enums,
+            &mut claims,
+            &mut page,
+        );
         turns += 1;
     }
 }
