@@ -3,9 +3,12 @@ use crate::out::put_bytes;
 use crate::shown::put_text;
 use reading::Answer;
 use reading::Cursor;
+use reading::Text;
 ghost use Prim.Native.Nat.{_+_, _*_, _≤_};
 ghost use mathlib.Core.Path.{_≡_};
 ghost use lib.ListN.{length};
+ghost use Rattle.reading.specs.Read.{mapR};
+ghost use Rattle.reading.specs.Link.{answer};
 ghost use Rattle.reading.specs.Text.{readName};
 ghost use Rattle.reading.specs.Combine.{entries};
 ghost use Rattle.reading.specs.Skip.{textAt};
@@ -15,12 +18,19 @@ ghost use Rattle.text.specs.Put.{Put};
 ghost use Rattle.text.specs.Shown.{quoted, moreNames, debugNames};
 ghost use Rattle.text.specs.Path.{reads, namesFrom};
 
+// The name at a place.
+fn name_at(doc: &[u8], place: usize) -> Answer
+    ensures { λ r. ⌜ r ≡ answer (mapR length (readName (now (doc .entry)) place)) ⌝ }
+{
+    let c = Cursor { at: place };
+    c.text(doc, Text::Name)
+}
+
 // The place after the name at a place.
 fn after_name(doc: &[u8], place: usize) -> usize
     ensures { λ r. ⌜ r ≡ placeAfter (readName (now (doc .entry)) place) ⌝ }
 {
-    let c = Cursor { at: place };
-    let r = c.name(doc);
+    let r = name_at(doc, place);
     match r {
         Answer::Got(_, next) => next.at,
         Answer::Refused(_, refused) => refused,
@@ -31,8 +41,7 @@ fn after_name(doc: &[u8], place: usize) -> usize
 fn name_reads(doc: &[u8], place: usize) -> bool
     ensures { λ r. ⌜ r ≡ reads (readName (now (doc .entry)) place) ⌝ }
 {
-    let c = Cursor { at: place };
-    let r = c.name(doc);
+    let r = name_at(doc, place);
     match r {
         Answer::Got(_, _) => true,
         Answer::Refused(_, _) => false,
