@@ -282,7 +282,7 @@ fn table(count: usize, seed: u64) -> Done {
 }
 
 fn write_samples(dir: &Path) -> Done {
-    for sample in samples::samples() {
+    for sample in samples::samples().into_iter().chain([samples::deepest()]) {
         write_file(dir, &format!("{}.cbor", sample.name), &sample.bytes)?;
     }
     Ok(())

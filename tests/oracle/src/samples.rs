@@ -1,5 +1,6 @@
 //! The benchmark documents: three sound state machines without errors, one
-//! of a growing number of transitions, and one in which every pair is found.
+//! as deep as is allowed, one of a growing number of transitions, and one in
+//! which every pair is found.
 
 use crate::encode::encode;
 use crate::generate::build::*;
@@ -27,6 +28,31 @@ pub fn samples() -> Vec<Sample> {
         ),
         sample("many", many()),
     ]
+}
+
+/// A guard and a formula as deep as is allowed: what costs a call most stack.
+pub fn deepest() -> Sample {
+    let yes = || Expr::Bool { value: true };
+    let guard = (1..32).fold(yes(), |inner, _| binary(BinOp::LogicAnd, inner, yes()));
+    let formula = (2..32).fold(holds(yes()), |inner, _| Formula::Not {
+        inner: Box::new(inner),
+    });
+    let module = mixed("Link", 1, 1);
+    let module = Module {
+        transitions: vec![Transition {
+            guard: Some(guard),
+            ..module.transitions[0].clone()
+        }],
+        properties: vec![Property {
+            formula,
+            ..module.properties[0].clone()
+        }],
+        ..module
+    };
+    Sample {
+        name: "deepest",
+        bytes: encode(&ir(vec![module])),
+    }
 }
 
 /// One module of the mixed kind with a growing number of transitions.
