@@ -1,6 +1,6 @@
 -- The answers of the calls, from what the walks over a document write.
 use Prim.Native.Nat.{ℕ, zero, suc, _+_, _-_, _*_, _<_, _≤_}
-use mathlib.Core.Path.{_≡_, refl, sym, ap, subst, _∙_}
+use mathlib.Core.Path.{_≡_, refl, sym, ap, _∙_}
 use mathlib.Core.List.{List, [], _∷_, _++_}
 use mathlib.Core.Bool.{true, false}
 use native.Mathlib.Omega.{arith}
@@ -19,7 +19,7 @@ use Rattle.reading.proofs.Rules.{no}
 use Rattle.reading.proofs.Views.{document-at}
 use Rattle.findings.specs.Finding.{Finding, words}
 use Rattle.findings.specs.Findings.{allErrors, allWarnings, findings}
-use Rattle.findings.specs.Sheet.{put, Written}
+use Rattle.findings.specs.Sheet.{put}
 use Rattle.findings.specs.Walks.{WalksAll, Walked, PutsErrors, PutsWarnings, Replies, Lines, WarningLine}
 use Rattle.findings.specs.Reply.{tooMany, replyTo, sheetOf, lineOf, lineTo}
 use Rattle.findings.specs.declared.reply.Reply.{Reply}

@@ -1,26 +1,19 @@
 -- Entries of lists by their number: the loop that passes items, and what reads where it ends.
-use Prim.Native.Nat.{ℕ, zero, suc, _+_, _-_, _<_, _≤_}
-use mathlib.Core.Path.{_≡_, refl, sym, ap, subst, _∙_}
-use mathlib.Core.List.{List, [], _∷_}
-use mathlib.Core.Option.{Option, none, some}
+use Prim.Native.Nat.{ℕ, suc, _+_, _-_, _<_, _≤_}
+use mathlib.Core.Path.{_≡_, ap, _∙_}
+use mathlib.Core.List.{List}
 use native.Mathlib.Omega.{arith}
-use lib.ListN.{length, getElem?}
 use borrow.Author.Tests.{lt-ltb, le-ltb}
-use Rattle.reading.specs.Read.{Reader, ok}
 use Rattle.reading.specs.Item.{readCount}
-use Rattle.reading.specs.Combine.{entries, listOf}
 use Rattle.reading.specs.Link.{answer}
 use Rattle.reading.specs.declared.cursor.Cursor.{Cursor}
 use Rattle.reading.specs.declared.fault.Fault.{Fault}
 use Rattle.reading.specs.declared.item.Answer.{Answer}
 use Rattle.reading.specs.declared.item.Answer.the-variants.{Got, Refused}
 use Rattle.reading.proofs.Answers.{num, out}
-use Rattle.reading.proofs.ListViews.{list-at}
-use Rattle.typing.specs.Table.{afterItem, Past}
+use Rattle.typing.specs.Table.{Past}
 use Rattle.typing.specs.declared.table.Found.the-variants.{At, Nothing}
-use Rattle.typing.proofs.EnvLaws.{after-is}
-use Rattle.findings.specs.Scene.{Bytes, Reads}
-use Rattle.text.specs.Says.{passed, entryOf, entryAt, Entry, entry-here, entry-none, Picked}
+use Rattle.text.specs.Says.{passed, entryOf, entryAt}
 
 -- what is passed before item k
 pub passed-start : (s : List ℕ) (k here : ℕ) → passed (k - 0) s here ≡ passed k s here

@@ -8,7 +8,6 @@ use lib.Dec.{eqb}
 use Rattle.reading.specs.Limits.{maxDepth}
 use Rattle.reading.specs.Expr.{Expr}
 use Rattle.reading.specs.Transition.{readTopExpr}
-use Rattle.reading.proofs.Rules.{no}
 use Rattle.typing.specs.Env.{Env, Agree}
 use Rattle.typing.specs.Typing.{typeExpr}
 use Rattle.typing.specs.Means.{blameOf}

@@ -3,7 +3,7 @@ use mathlib.Core.List.{List, [], _∷_, _++_}
 use Prim.Native.Nat.{ℕ}
 use mathlib.Core.Option.{Option, none, some}
 use Rattle.typing.specs.Causes as causes
-use Rattle.typing.specs.Causes.{Cause, Answer, is, fails, Within, alone, field, arg, Blame}
+use Rattle.typing.specs.Causes.{Cause, is, Within, alone, field, arg, Blame}
 use Rattle.text.specs.Form.{say}
 use Rattle.text.specs.Shown.{decimal, debugType, debugNames, whatText}
 

@@ -1,6 +1,6 @@
 -- What the code's arguments and sayings stand for, in a document.
 use Prim.Native.Nat.{ℕ}
-use mathlib.Core.List.{List, [], _∷_}
+use mathlib.Core.List.{List, []}
 use mathlib.Core.Option.{Option, none, some}
 use Rattle.reading.specs.Skip.{textAt}
 use Rattle.typing.specs.Means.{tyOf, pathAt, blameOf}

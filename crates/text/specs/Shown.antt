@@ -7,7 +7,7 @@ use Rattle.reading.specs.Text.{Name}
 use Rattle.typing.specs.Types.{ExprType, bool, bit, intLit, enum}
 use Rattle.typing.specs.declared.cause.What.{What}
 use Rattle.typing.specs.declared.cause.What.the-variants.{Operand, Left, Right, Formula, Guard}
-use Rattle.text.specs.Form.{text, say}
+use Rattle.text.specs.Form.{text}
 
 -- the decimal digits of n, the most significant first, and no more than k of them
 unfoldable pub digits : ℕ → ℕ → List ℕ

@@ -1,13 +1,13 @@
 -- What the message call answers, and what it leaves in the lent bytes.
 use Prim.Native.Nat.{ℕ}
 use mathlib.Core.List.{List, _++_}
-use mathlib.Core.Bool.{Bool, cond}
+use mathlib.Core.Bool.{cond}
 use lib.ListN.{length, getD, drop}
 use lib.Dec.{ltb}
 use Rattle.reading.specs.Read.{Read, ok, refused}
 use Rattle.reading.specs.Fault.{number}
 use Rattle.reading.specs.Module.{Ir}
-use Rattle.findings.specs.Finding.{note, Finding, inModule}
+use Rattle.findings.specs.Finding.{note, inModule}
 use Rattle.findings.specs.Findings.{findings}
 use Rattle.text.specs.Message.{messageOf}
 use Rattle.text.specs.declared.told.Told.{Told}

@@ -3,9 +3,8 @@ use reading::Answer;
 use reading::Cursor;
 use typing::Found;
 use typing::after;
-ghost use mathlib.Core.Path.{_≡_};
 ghost use Rattle.reading.specs.Limits.{maxList};
-ghost use Rattle.text.specs.Says.{passed, Picked};
+ghost use Rattle.text.specs.Says.{Picked};
 
 // The place of entry k of the list at a place, which has at most so many.
 pub(crate) fn entry_of(doc: &[u8], at: usize, most: u64, k: usize) -> Found

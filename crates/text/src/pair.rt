@@ -10,7 +10,6 @@ use typing::Blame;
 use typing::Clash;
 use typing::contradictory_equalities;
 use typing::null_at;
-ghost use mathlib.Core.Path.{_≡_};
 ghost use Rattle.text.specs.Says.{NumberAt, SaysPriority, SaysPair, SaysId, SaysClash};
 
 // The number at a place; 0 where none stands there.

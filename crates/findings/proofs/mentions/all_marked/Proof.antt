@@ -3,7 +3,6 @@ use Prim.Native.Nat.{ℕ, _-_, _<_}
 use mathlib.Core.Path.{_≡_}
 use lib.ListN.{getD}
 use native.Mathlib.Omega.{arith}
-use borrow.Author.Needs.{needs}
 use Rattle.findings.proofs.TouchLaws.{some-free, marked-start, marked-more, all-marked}
 use Rattle.findings.proofs.mentions.all_marked.Statement.{statement}
 use Rattle.findings.proofs.mentions.all_marked.Tie as tie

@@ -1,7 +1,6 @@
 -- None of those passed has the key.
 use Prim.Native.Nat.{_-_}
 use native.Mathlib.Omega.{arith}
-use borrow.Author.Needs.{needs}
 use Rattle.findings.proofs.RivalLaws.{RivalLeft, rival-start, rival-skip, rival-found, rival-missing}
 use Rattle.findings.proofs.pairs.has_rival.Statement.{statement}
 use Rattle.findings.proofs.pairs.has_rival.Tie as tie

@@ -1,7 +1,6 @@
 -- No two of those passed have one key, and their remainders are seen.
 use mathlib.Core.Logic.{⊎-elim}
 use native.Mathlib.Omega.{arith}
-use borrow.Author.Needs.{needs}
 use Rattle.findings.proofs.RivalLaws.{PairsLeft, pairs-start, pairs-skip, pairs-more, pairs-found, pairs-none}
 use Rattle.findings.proofs.pairs.no_pairs.Statement.{statement}
 use Rattle.findings.proofs.pairs.no_pairs.Tie as tie
