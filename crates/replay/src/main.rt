@@ -1,7 +1,9 @@
 // Replays data/vectors.bin: each record has a document and the answer that is due, made by tests/oracle. Prints each
-// document that is answered otherwise, and how many there are. Then data/findings.bin alike.
+// document that is answered otherwise, and how many there are. Then data/findings.bin and data/messages.bin alike.
 mod file;
 mod findings;
+mod lines;
+mod messages;
 mod sheet;
 
 use file::more;
@@ -140,4 +142,5 @@ fn main() {
     let mut space = [0u8; 70000];
     report(replay(fd, &mut space));
     findings::run(&mut space);
+    messages::run(&mut space);
 }
