@@ -1,3 +1,4 @@
+-- The tables keep their length, so there is room for the names.
 use native.Mathlib.Omega.{arith}
 use borrow.Author.Needs.{needs}
 use Rattle.offercheck.proofs.lines.print_module.Statement.{statement}
