@@ -10,6 +10,7 @@ pub mod Levels
 pub mod Arms
 pub mod Whole
 pub mod Skips
+pub mod Passes
 pub mod Cycle
 pub mod At
 pub mod HeadSound

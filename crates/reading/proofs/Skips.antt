@@ -1,10 +1,11 @@
 -- Past items: the loop, in which what remains decides, goes as the definition does; items that stand there are passed; a string's part.
-use Prim.Native.Nat.{ℕ, zero, suc, _+_, _-_, _<_, _≤_}
+use Prim.Native.Nat.{ℕ, zero, suc, _+_, _-_, _%_, _<_, _≤_}
 use mathlib.Core.Path.{_≡_, refl, sym, ap, _∙_}
 use mathlib.Core.List.{List, []}
+use mathlib.Core.Bool.{Bool, true}
 use native.Mathlib.Omega.{arith}
 use native.Mathlib.Nat.{add-sub-cancel-left}
-use lib.ListN.{length, take, drop}
+use lib.ListN.{length, take, drop, getD}
 use borrow.Author.Tests.{lt-ltb, le-ltb, le-leb, ltb-false}
 use Rattle.reading.specs.Read.{Read, ok, refused, bind}
 use Rattle.reading.specs.Head.{Hd, readHead}
@@ -12,6 +13,7 @@ use Rattle.reading.specs.Item.{readKind}
 use Rattle.reading.specs.Items.{inside, payload, Items, none, more}
 use Rattle.reading.specs.Skip.{skipBody, skipHead, skipOr, skipWithin, skipItems, spanOf, textAt}
 use Rattle.reading.specs.Link.{headOf, answer, stands, stepOf}
+use Rattle.reading.specs.Short.{oneByte}
 use Rattle.reading.specs.declared.fault.Fault.{Fault}
 use Rattle.reading.specs.declared.fault.Fault.the-variants.{Truncated}
 use Rattle.reading.specs.declared.cursor.Cursor.{Cursor}
@@ -24,6 +26,7 @@ use Rattle.reading.specs.declared.step.Step.the-variants as step
 use Rattle.reading.proofs.Rules.{pick-true, pick-false, bind-ok, bind-out}
 use Rattle.reading.proofs.Gives.{Gives, gives-ok, gives-refused, gives-pick, gives-bind, head-spans, kind-fits}
 use Rattle.reading.proofs.Items.{items-room}
+use Rattle.reading.proofs.Short.{kind-short}
 use Rattle.reading.proofs.Answers.{num, out, hd, hd-out, answer-ok, answer-out, stands-ok, stands-out}
 
 -- after one head
@@ -121,7 +124,7 @@ module _ (left : ℕ) (s : List ℕ) (at : ℕ) (w : Read (Unit {0})) (decides :
     skip-out q h = h ∙ ap stepOf q ∙ sym (rw (first, out _ e q, bind-out, stands-out))
 
 -- items that stand there are passed
-passed-head : (s : List ℕ) (k at : ℕ) (h : Hd) (m : ℕ) → readHead s at ≡ ok h m → k + inside h + payload h ≤ length s - m → skipHead k s at ≡ ok (k + inside h) (m + payload h)
+pub passed-head : (s : List ℕ) (k at : ℕ) (h : Hd) (m : ℕ) → readHead s at ≡ ok h m → k + inside h + payload h ≤ length s - m → skipHead k s at ≡ ok (k + inside h) (m + payload h)
 unfolding skipHead skipBody
 passed-head s k at h m e t = rw (e, bind-ok, le-ltb (length s - m) (k + inside h + payload h) t, pick-false)
 
@@ -153,3 +156,8 @@ module _ (s : List ℕ) (at : ℕ) {a : Answer} (e : a ≡ answer (readKind 3 s 
     pub span-whole : len ≤ length s - c .at → take (c .at + len - c .at) (drop (c .at) s) ≡ textAt s at
     unfolding textAt spanOf
     span-whole h = ap (λ (k : ℕ). take k (drop (c .at) s)) (add-sub-cancel-left (c .at) len) ∙ sym (rw (num _ e q, le-ltb (length s - c .at) len h, pick-false))
+
+-- and where its head is one byte
+module _ (s : List ℕ) (at : ℕ) (h : at < length s) {r : Bool} (e : r ≡ oneByte 3 (getD s at 0)) (q : r ≡ true) where
+  pub span-one : getD s at 0 % 32 < length s - at → take (at + 1 + getD s at 0 % 32 - (at + 1)) (drop (at + 1) s) ≡ textAt s at
+  span-one m = span-whole s at (kind-short s 3 at h e q) refl (omega arith)

@@ -62,7 +62,8 @@ impl Step {
     pub(crate) fn ty(self, doc: &[u8]) -> Step
         ensures { λ r. ⌜ r ≡ onward (now (doc .entry)) self readTy ⌝ }
     {
-        let t = self.tag(doc);
+        // Types are few: head by head.
+        let t = self.any_tag(doc);
         match t {
             Tagged::Case(tag, next) => next.ty_case(doc, tag),
             Tagged::Refused(fault, place) => Step::Refused(fault, place),
@@ -93,7 +94,8 @@ impl Step {
     pub(crate) fn constructor_variant(self, doc: &[u8]) -> Step
         ensures { λ r. ⌜ r ≡ onward (now (doc .entry)) self readConstructorVariant ⌝ }
     {
-        let t = self.tag(doc);
+        // Variants are few: head by head.
+        let t = self.any_tag(doc);
         match t {
             Tagged::Case(tag, next) => next.constructor_variant_case(doc, tag),
             Tagged::Refused(fault, place) => Step::Refused(fault, place),

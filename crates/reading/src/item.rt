@@ -8,7 +8,7 @@ ghost use mathlib.Core.Path.{_≡_};
 ghost use Rattle.reading.specs.Read.{mapR};
 ghost use Rattle.reading.specs.Item.{readKind, readNumber, readIrVersion, readCase, readBool, readFields, readCount, readTag};
 ghost use Rattle.reading.specs.Link.{answer, taggedOf, stands, bit, valueOf, stepOf};
-ghost use Rattle.reading.specs.Short.{oneByte};
+ghost use Rattle.reading.specs.Short.{oneByte, tagHead};
 
 // An item with a number: the number and the cursor after the item; or what is wrong, and where.
 pub enum Answer {
@@ -30,7 +30,7 @@ pub enum Tagged {
 }
 
 // Whether a head is this byte alone: of the major type that is due, with its argument in it.
-fn one_byte(b: u8, due: u8) -> bool
+pub(crate) fn one_byte(b: u8, due: u8) -> bool
     ensures { λ r. ⌜ r ≡ oneByte due b ⌝ }
 {
     if 6 < due {
@@ -41,6 +41,16 @@ fn one_byte(b: u8, due: u8) -> bool
         return false;
     }
     b - first < 24
+}
+
+// Whether these two bytes are the head of a data enum: an array that is not empty, and a case number.
+fn tag_head(b: u8, case: u8) -> bool
+    ensures { λ r. ⌜ r ≡ tagHead b case ⌝ }
+{
+    match b {
+        129..=151 => case < 24,
+        _ => false,
+    }
 }
 
 impl Answer {
@@ -82,7 +92,7 @@ impl Cursor {
     }
 
     // The same, by the whole head.
-    fn any_kind(self, doc: &[u8], due: u8) -> Answer
+    pub(crate) fn any_kind(self, doc: &[u8], due: u8) -> Answer
         ensures { λ r. ⌜ r ≡ answer (readKind due (now (doc .entry)) (self .at)) ⌝ }
     {
         let at = self.at;
@@ -193,8 +203,34 @@ impl Cursor {
         Answer::Got(entries, next)
     }
 
-    // The head of a data enum.
+    // The head of a data enum. Mostly it is two bytes; `any_tag` reads the others.
     pub fn tag(self, doc: &[u8]) -> Tagged
+        ensures { λ r. ⌜ r ≡ taggedOf (readTag (now (doc .entry)) (self .at)) ⌝ }
+    {
+        let at = self.at;
+        let len = doc.len();
+        if at < len {
+            if 1 < len - at {
+                let b = doc[at];
+                let case = doc[at + 1];
+                if tag_head(b, case) {
+                    return Tagged::Case(
+                        Tag {
+                            start: at,
+                            count: (b % 32) as u64,
+                            case: case as u64,
+                            place: at + 1,
+                        },
+                        Cursor { at: at + 2 },
+                    );
+                }
+            }
+        }
+        self.any_tag(doc)
+    }
+
+    // The same, head by head.
+    pub(crate) fn any_tag(self, doc: &[u8]) -> Tagged
         ensures { λ r. ⌜ r ≡ taggedOf (readTag (now (doc .entry)) (self .at)) ⌝ }
     {
         let at = self.at;

@@ -109,6 +109,16 @@ impl Step {
         }
     }
 
+    // The same, head by head.
+    pub(crate) fn any_tag(self, doc: &[u8]) -> Tagged
+        ensures { λ r. ⌜ r ≡ taggedAfter (now (doc .entry)) self readTag ⌝ }
+    {
+        match self {
+            Step::To(c) => c.any_tag(doc),
+            Step::Refused(fault, place) => Tagged::Refused(fault, place),
+        }
+    }
+
     // An expression or formula for which no level is left.
     pub(crate) fn too_deep(self) -> Step
         ensures { λ r. ⌜ r ≡ deep self ⌝ }

@@ -2,6 +2,7 @@
 use crate::cursor::Cursor;
 use crate::cursor::Head;
 use crate::fault::Fault;
+use crate::item;
 use crate::item::Answer;
 use crate::step::Step;
 ghost use mathlib.Core.Path.{_≡_};
@@ -10,6 +11,19 @@ ghost use lib.ListN.{length};
 ghost use Rattle.reading.specs.Items.{inside, payload};
 ghost use Rattle.reading.specs.Skip.{skipBody, skipHead, skipItems, textAt};
 ghost use Rattle.reading.specs.Link.{answer, stands};
+ghost use Rattle.reading.specs.Short.{Passed};
+
+// Past an item whose head is one byte: how many items are then left; or it has another head, or its bytes are not there.
+enum Short {
+    Past(u64, Cursor),
+    Longer,
+}
+
+// The items that are left, and where the first stands.
+struct Rest {
+    left: u64,
+    at: usize,
+}
 
 // How many items are inside an item.
 fn inside(major: u8, arg: u64) -> u64
@@ -74,8 +88,8 @@ impl Cursor {
         )
     }
 
-    // Past so many items, whatever they hold.
-    pub fn skip(self, doc: &[u8], count: u64) -> Step
+    // Past so many items, by their whole heads.
+    fn skip_any(self, doc: &[u8], count: u64) -> Step
         ensures { λ r. ⌜ r ≡ stands (skipItems count (now (doc .entry)) (self .at)) ⌝ }
     {
         let mut at = self.at;
@@ -91,14 +105,109 @@ impl Cursor {
         }
         Step::To(Cursor { at })
     }
+
+    // Past one head of one byte and its string's bytes: how many items are then left, as `skip_head` says.
+    fn skip_short(self, doc: &[u8], more: u64) -> Short
+        requires { ⌜ self .at + 1 + more ≤ length (now doc) ⌝ }
+        ensures { λ r. ⌜ Passed more (now (doc .entry)) (self .at) r ⌝ }
+    {
+        let at = self.at;
+        let b = doc[at];
+        let next = at + 1;
+        if b < 24 {
+            return Short::Past(more, Cursor { at: next });
+        }
+        let room = (doc.len() - next) as u64 - more;
+        let n = (b % 32) as u64;
+        if 128 <= b {
+            if b < 152 {
+                if n <= room {
+                    return Short::Past(more + n, Cursor { at: next });
+                }
+                return Short::Longer;
+            }
+            if b == 246 {
+                return Short::Past(more, Cursor { at: next });
+            }
+            return Short::Longer;
+        }
+        if 96 <= b {
+            if b < 120 {
+                if n <= room {
+                    return Short::Past(
+                        more,
+                        Cursor {
+                            at: next + n as usize,
+                        },
+                    );
+                }
+            }
+        }
+        Short::Longer
+    }
+
+    // Past the items before the first whose head is longer.
+    // Before each turn the bytes ahead can hold the items left, so that none is counted for a number.
+    fn skip_shorts(self, doc: &[u8], count: u64) -> Rest
+        ensures { λ r. ⌜ skipItems (r .left) (now (doc .entry)) (r .at) ≡ skipItems count (now (doc .entry)) (self .at) ⌝ }
+    {
+        let mut at = self.at;
+        let mut left = count;
+        let len = doc.len();
+        if len <= at {
+            return Rest { left, at };
+        }
+        if ((len - at) as u64) < count {
+            return Rest { left, at };
+        }
+        while 0 < left {
+            let c = Cursor { at };
+            let r = c.skip_short(doc, left - 1);
+            let Short::Past(items, next) = r else {
+                return Rest { left, at };
+            };
+            left = items;
+            at = next.at;
+        }
+        Rest { left, at }
+    }
+
+    // Past so many items, whatever they hold. Mostly heads are one byte; `skip_any` goes on from the first that is longer.
+    pub fn skip(self, doc: &[u8], count: u64) -> Step
+        ensures { λ r. ⌜ r ≡ stands (skipItems count (now (doc .entry)) (self .at)) ⌝ }
+    {
+        let rest = self.skip_shorts(doc, count);
+        let c = Cursor { at: rest.at };
+        c.skip_any(doc, rest.left)
+    }
 }
 
 // The bytes of the string at a place, as that part of the document; none where no string stands there.
+// Mostly its head is one byte; `any_text_at` reads the others.
 pub fn text_at(doc: &[u8], at: usize) -> &[u8]
     ensures { λ r. ⌜ now r ≡ textAt (now (doc .entry)) at ⌝ }
 {
+    let len = doc.len();
+    if at < len {
+        let b = doc[at];
+        if item::one_byte(b, 3) {
+            let n = (b % 32) as usize;
+            if n < len - at {
+                let from = at + 1;
+                let end = from + n;
+                return &doc[from..end];
+            }
+        }
+    }
+    any_text_at(doc, at)
+}
+
+// The same, by the whole head.
+fn any_text_at(doc: &[u8], at: usize) -> &[u8]
+    ensures { λ r. ⌜ now r ≡ textAt (now (doc .entry)) at ⌝ }
+{
     let c = Cursor { at };
-    let r = c.kind(doc, 3);
+    let r = c.any_kind(doc, 3);
     let Answer::Got(len, next) = r else {
         return &doc[0..0];
     };

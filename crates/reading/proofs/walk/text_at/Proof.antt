@@ -1,8 +1,8 @@
--- By the string's head, and the room that is left.
+-- A head of one byte, or any.
 use borrow.Author.Needs.{needs}
-use Rattle.reading.proofs.Skips.{span-refused, span-from, span-short, span-end, span-whole}
+use Rattle.reading.proofs.Skips.{span-one}
 use Rattle.reading.proofs.walk.text_at.Statement.{statement}
 use Rattle.reading.proofs.walk.text_at.Tie as tie
 
 pub text-at-spec : {M : Type 1} → statement M
-text-at-spec = tie.close (tie.spec (λ c κs. search needs) (λ c. search needs) (λ c. search needs) (λ c. search needs) (λ c. search needs) (λ c. search needs) (λ c. search span-refused) (λ c. search span-from) (λ c. search needs) (λ c. search needs) (λ c. search needs) (λ c. search span-short) (λ c. search needs) (λ c. search needs) (λ c. search needs) (λ c. search span-end) (λ c. search span-whole))
+text-at-spec = tie.close (tie.spec (λ c. search needs) (λ c κs. search needs) (λ c. search needs) (λ c. search needs) (λ c. search needs) (λ c. search needs) (λ c. search needs) (λ c. search needs) (λ c. search needs) (λ c. search span-one) (λ c κs. search needs) (λ c. search needs))
