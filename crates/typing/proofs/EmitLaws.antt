@@ -9,7 +9,7 @@ use lib.Dec.{eqb}
 use lib.ListN.{length, getD}
 use borrow.Author.Tests.{eq-eqb, ne-eqb}
 use Rattle.reading.specs.Read.{ok, pick}
-use Rattle.reading.specs.Limits.{maxList}
+use Rattle.reading.specs.Limits.{maxDepth, maxList}
 use Rattle.reading.specs.Item.{readCount}
 use Rattle.reading.specs.Text.{Name, readName}
 use Rattle.reading.specs.Expr.{Expr}
@@ -17,16 +17,15 @@ use Rattle.reading.specs.Combine.{listOf, optional}
 use Rattle.reading.specs.Decl.{FieldDecl, ConstructorVariant, ConstructorGroup, readFieldDecl, readConstructorVariant, readConstructorGroup}
 use Rattle.reading.specs.Transition.{OutputExpr, readTopExpr}
 use Rattle.reading.specs.Skip.{textAt}
+use Rattle.reading.proofs.Rules.{no}
 use Rattle.reading.proofs.ExprLaws.{name-laws, name-solid}
 use Rattle.reading.proofs.OptionLaws.{option-laws}
-use Rattle.reading.proofs.DeclLaws.{field-decl-laws}
-use Rattle.reading.proofs.TransitionLaws.{top-expr-laws}
 use Rattle.reading.proofs.Views.{output-expr-at}
 use Rattle.reading.proofs.ListViews.{option-at}
 use Rattle.reading.proofs.Walks.{name-text}
 use Rattle.typing.specs.Types.{typeToExprType}
 use Rattle.typing.specs.Causes as causes
-use Rattle.typing.specs.Causes.{firstOf, blame}
+use Rattle.typing.specs.Causes.{firstOf, blame, arg}
 use Rattle.typing.specs.Names.{firstCalled}
 use Rattle.typing.specs.Env.{Env}
 use Rattle.typing.specs.Typing.{typeExpr}
@@ -36,10 +35,14 @@ use Rattle.typing.specs.Means.{causeOf, unfitOf, withinOf, blameOf}
 use Rattle.typing.specs.Table.{afterItem, afterHead, afterTag, Past}
 use Rattle.typing.specs.Accepts.{nameFound}
 use Rattle.typing.specs.First.{groupName, First}
-use Rattle.typing.specs.Arguments.{AcceptsArg}
+use Rattle.typing.specs.Typed.{Types}
+use Rattle.typing.specs.Arguments.{AcceptsTyped}
 use Rattle.typing.specs.Entries.{opened, Entered, FieldsAt}
 use Rattle.typing.specs.Emits.{JudgesArg, JudgesArgs, OnlyVariant, NamesVariant, JudgesVariant, JudgesName, JudgesGroup}
 use Rattle.typing.specs.Blames.{JudgesOutput}
+use Rattle.typing.specs.declared.ty.Ty.{Ty}
+use Rattle.typing.specs.declared.cause.Typed.{Typed}
+use Rattle.typing.specs.declared.cause.Typed.the-variants.{Is, Fails}
 use Rattle.typing.specs.declared.cause.Cause.{Cause}
 use Rattle.typing.specs.declared.cause.Cause.the-variants.{UnknownOutputGroup, BareOutput, UnknownOutputVariant, ArgumentCount}
 use Rattle.typing.specs.declared.cause.Within.{Within}
@@ -52,23 +55,20 @@ use Rattle.typing.specs.declared.entries.Entries.{Entries}
 use Rattle.typing.specs.declared.table.Found.{Found}
 use Rattle.typing.specs.declared.table.Found.the-variants.{At, Nothing}
 use Rattle.typing.proofs.EnvLaws.{entry, after-is, fields-head}
+use Rattle.typing.proofs.TypeLaws.{is-typed, is-failed}
 use Rattle.typing.proofs.EntryLaws.{entered, Next, none-left, next, entered-at}
-use Rattle.typing.proofs.PartLaws.{option-null, option-there, field-text, field-type, group-variants}
+use Rattle.typing.proofs.PartLaws.{past-at, option-null, option-there, field-text, field-type, field-ends, group-variants}
 use Rattle.typing.proofs.FirstLaws.{found-no, found-yes, variant-text}
 
--- an argument with its field
-module _ (env : Env) (s : List ℕ) (at field : ℕ) {name ty : ℕ} {f : Fit} (h : name ≡ afterHead s field) (o : Past s (afterHead s field) ty) (g : AcceptsArg env s at ty f) where
-  arg-cause : (e : Expr) (n : ℕ) (d : FieldDecl) (m : ℕ) → readTopExpr s at ≡ ok e n → readFieldDecl s field ≡ ok d m → unfitOf s f ≡ argCause (typeExpr env e) (typeToExprType (d .ty))
-  unfolding readTopExpr
-  arg-cause e n d m i j = g .of e n (d .ty) m i (field-type s field d m j o)
-
-  pub arg-fine : f ≡ Fine → JudgesArg env s at field blames.Nothing
+-- an argument with its field's name and type
+module _ (s : List ℕ) (t : Typed) (name ty : ℕ) {f : Fit} (g : AcceptsTyped s t ty f) where
+  pub arg-fine : f ≡ Fine → JudgesArg s t name ty blames.Nothing
   unfolding blame unfitOf blameOf
-  arg-fine q = record { of = λ e n d m i j. rw (sym (arg-cause e n d m i j) ∙ ap (unfitOf s) q) }
+  arg-fine q = record { of = λ a n u m i j. rw (sym (g .of a n u m i j) ∙ ap (unfitOf s) q) }
 
-  pub arg-unfit : {c : Cause} → f ≡ Unfit c → JudgesArg env s at field (blames.Found (Arg name) c)
+  pub arg-unfit : {c : Cause} → f ≡ Unfit c → JudgesArg s t name ty (blames.Found (Arg name) c)
   unfolding blame unfitOf blameOf withinOf
-  arg-unfit q = record { of = λ e n d m i j. rw (sym (arg-cause e n d m i j) ∙ ap (unfitOf s) q, field-text s field d m j h) }
+  arg-unfit q = record { of = λ a n u m i j. rw (sym (g .of a n u m i j) ∙ ap (unfitOf s) q) }
 
 found-first : (s : List ℕ) {b : Blame} {w : Within} {c : Cause} → b ≡ blames.Found w c → (o : Option causes.Blame) → blameOf s b ≡ firstOf (blameOf s b) o
 unfolding firstOf blameOf
@@ -97,32 +97,51 @@ module _ (env : Env) (s : List ℕ) (at fields count left k g : ℕ) (h : Judgin
   unfolding judgeArgs blameOf
   args-done z = record { of = λ es fs u v. let l = h .of es fs u v in (λ i. judgeArgs env (sym (none-left (l .args) z (l .given)) i) (l .fields)) ∙ l .same }
 
-  module _ (z : 0 < left) {b : Blame} (e : JudgesArg env s k g b) where
+  module _ (z : 0 < left) {name ty : ℕ} {t : Typed} {b : Blame} (n : name ≡ afterHead s g) (o : Past s name ty) (y : Types env maxDepth s k t) (e : JudgesArg s t name ty b) where
+    arg-is : (x : Expr) (m : ℕ) (d : FieldDecl) (i : ℕ) → readTopExpr s k ≡ ok x m → readFieldDecl s g ≡ ok d i → blameOf s b ≡ blame (arg (d .name)) (argCause (typeExpr env x) (typeToExprType (d .ty)))
+    unfolding readTopExpr
+    arg-is x m d i q r = e .of (typeExpr env x) m (d .ty) i (y .of x m q) (field-type s g d i r (past-at n o)) ∙ ap (λ (w : Name). blame (arg w) (argCause (typeExpr env x) (typeToExprType (d .ty)))) (field-text s g d i r n)
+
     -- the argument whose turn it is, and those after it
-    turn : {es : List Expr} {fs : List FieldDecl} (l : Left env s left k g es fs) → (x : Next readTopExpr s left k (l .args)) × (y : Next readFieldDecl s left g (l .fields)) × (firstOf (blameOf s b) (judgeArgs env (x .tail) (y .tail)) ≡ judgeArgs env es fs)
+    turn : {es : List Expr} {fs : List FieldDecl} (l : Left env s left k g es fs) → (x : Next readTopExpr s left k (l .args)) × (d : Next readFieldDecl s left g (l .fields)) × (firstOf (blameOf s b) (judgeArgs env (x .tail) (d .tail)) ≡ judgeArgs env es fs)
     unfolding judgeArgs
     turn l =
         let x = next (l .args) z (l .given) in
-        let y = next (l .fields) z (l .declared) in
-        (x, y, ap (λ o. firstOf o (judgeArgs env (x .tail) (y .tail))) (e .of (x .head) (x .end) (y .head) (y .end) (x .here) (y .here)) ∙ (λ i. judgeArgs env (sym (x .split) i) (sym (y .split) i)) ∙ l .same)
+        let d = next (l .fields) z (l .declared) in
+        (x, d, ap (λ o. firstOf o (judgeArgs env (x .tail) (d .tail))) (arg-is (x .head) (x .end) (d .head) (d .end) (x .here) (d .here)) ∙ (λ i. judgeArgs env (sym (x .split) i) (sym (d .split) i)) ∙ l .same)
 
     pub args-hit : {w : Within} {c : Cause} → b ≡ blames.Found w c → JudgesArgs env s at fields count b
     args-hit q = record { of = λ es fs u v. found-first s q _ ∙ turn (h .of es fs u v) .2 }
 
-    pub args-miss : {k' g' : ℕ} → b ≡ blames.Nothing → Past s k k' → Past s g g' → Judging env s at fields count (left - 1) k' g'
-    args-miss q o p = record {
-      of = λ es fs u v.
-          let t = turn (h .of es fs u v) in
-          let x = t .0 in
-          let y = t .1 in
-          record {
-            args = x .tail;
-            fields = y .tail;
-            given = entered-at (o .is ∙ after-is top-expr-laws s (o .each) k (x .head) (x .end) (x .here)) (x .rest);
-            declared = entered-at (p .is ∙ after-is field-decl-laws s (p .each) g (y .head) (y .end) (y .here)) (y .rest);
-            same = none-first s q _ ∙ t .2;
-          };
-    }
+    module _ (q : b ≡ blames.Nothing) where
+      pub args-untyped : {c : Cause} → t ≡ Fails c → JudgesArgs env s at fields count b
+      unfolding readTopExpr argCause blame blameOf
+      args-untyped f = record {
+        of = λ es fs u v.
+            let w = turn (h .of es fs u v) in
+            let x = w .0 in
+            let d = w .1 in
+            let i = is-failed env maxDepth s k y (x .head) (x .end) (x .here) f in
+            let j = sym (ap (blameOf s) q) ∙ arg-is (x .head) (x .end) (d .head) (d .end) (x .here) (d .here) in
+            let r = rw i at j in
+            no (cc);
+      }
+
+      pub args-miss : {τ : Ty} {k' g' : ℕ} → t ≡ Is τ k' → Past s ty g' → Judging env s at fields count (left - 1) k' g'
+      unfolding readTopExpr
+      args-miss f p = record {
+        of = λ es fs u v.
+            let w = turn (h .of es fs u v) in
+            let x = w .0 in
+            let d = w .1 in
+            record {
+              args = x .tail;
+              fields = d .tail;
+              given = entered-at (is-typed env maxDepth s k y (x .head) (x .end) (x .here) f .1) (x .rest);
+              declared = entered-at (field-ends s g (d .head) (d .end) (d .here) (past-at n o) p) (d .rest);
+              same = none-first s q _ ∙ w .2;
+            };
+      }
 
 -- the only variant
 module _ (s : List ℕ) (at : ℕ) {e : Entries} (h : e ≡ opened (readCount maxList s at)) where

@@ -6,6 +6,7 @@ use mathlib.Core.Bool.{Bool, true, false}
 use native.Mathlib.Omega.{arith}
 use lib.ListN.{length}
 use lib.Dec.{eqb}
+use borrow.Author.Tests.{eq-eqb, ne-eqb}
 use Rattle.reading.specs.Read.{Reader, ok}
 use Rattle.reading.specs.Limits.{maxList}
 use Rattle.reading.specs.Item.{readCount, readTag}
@@ -33,7 +34,7 @@ use Rattle.typing.specs.Outputs.{fieldsOf}
 use Rattle.typing.specs.Table.{placeAfter, afterItem, afterTag, Past}
 use Rattle.typing.specs.Entries.{opened, Entered, caseIs, caseAt, givenFields, FieldsAt}
 use Rattle.typing.specs.declared.entries.Entries.{Entries}
-use Rattle.typing.proofs.TableLaws.{tag-was, tag-out}
+use Rattle.typing.proofs.TableLaws.{tag-was, tag-out, tag-to}
 use Rattle.typing.proofs.EnvLaws.{entry, after-is}
 
 module _ (s : List ℕ) (at : ℕ) {a : Answer} (e : a ≡ answer (readCount maxList s at)) where
@@ -162,7 +163,7 @@ declared-fields s at d n e = let u = constructor-variant-at s at d n e in rw (u 
 
 -- the fields of a variant
 module _ (s : List ℕ) (at : ℕ) {b : Bool} (e : b ≡ caseAt s at 1) where
-  pub fields-unit : b ≡ false → FieldsAt s at (record { many = 0; first = at })
+  fields-unit : b ≡ false → FieldsAt s at (record { many = 0; first = at })
   unfolding givenFields fieldsOf entries
   fields-unit q = record {
     given = λ v n g. given v (sym q ∙ e ∙ pattern-fields s at v n g);
@@ -177,7 +178,7 @@ module _ (s : List ℕ) (at : ℕ) {b : Bool} (e : b ≡ caseAt s at 1) where
       declared (decl.unit w) i = record { count = refl; end = at; reads = refl }
       declared (decl.struct w fs) i = no (cc)
 
-  pub fields-struct : {name l : ℕ} {r : Entries} → b ≡ true → name ≡ afterTag s at → Past s name l → r ≡ opened (readCount maxList s l) → FieldsAt s at r
+  fields-struct : {name l : ℕ} {r : Entries} → b ≡ true → name ≡ afterTag s at → Past s name l → r ≡ opened (readCount maxList s l) → FieldsAt s at r
   unfolding givenFields fieldsOf placeAfter
   fields-struct {name} {l} {r} q j o h = record {
     given = λ v n g. let u = pattern-variant-at s at v n g in given (u .fields) (j ∙ ap placeAfter (u .tagged)) (sym q ∙ e ∙ pattern-fields s at v n g);
@@ -191,3 +192,15 @@ module _ (s : List ℕ) (at : ℕ) {b : Bool} (e : b ≡ caseAt s at 1) where
       declared : {m c : ℕ} {d : ConstructorVariant} {n : ℕ} → ConstructorVariantAt s m c d n → name ≡ m → true ≡ declaresFields d → Entered readFieldDecl s (r .many) (r .first) (fieldsOf d)
       declared (unit-variant u) y i = no (cc)
       declared {m} (struct-variant u w) y i = entered readFieldDecl s l h _ _ (ap (listOf maxList readFieldDecl s) (o .is ∙ ap (afterItem s) y ∙ after-is name-laws s (o .each) m _ _ u) ∙ w)
+
+-- by the head that was read
+module _ (s : List ℕ) (at : ℕ) {a : Tagged} (e : a ≡ taggedOf (readTag s at)) where
+  pub fields-none : {f : Fault} {p : ℕ} → a ≡ tagged.Refused f p → FieldsAt s at (record { many = 0; first = at })
+  fields-none q = fields-unit s at (case-none s at 1 e q) refl
+
+  module _ {t : Tag} {c : Cursor} (q : a ≡ tagged.Case t c) where
+    pub fields-other : (t .case ≡ 1 → ⊥) → FieldsAt s at (record { many = 0; first = at })
+    fields-other z = fields-unit s at (case-was s at 1 e q) (ne-eqb (t .case) 1 z)
+
+    pub fields-one : {l : ℕ} {r : Entries} → t .case ≡ 1 → Past s (c .at) l → r ≡ opened (readCount maxList s l) → FieldsAt s at r
+    fields-one z o h = fields-struct s at (case-was s at 1 e q) (eq-eqb (t .case) 1 z) (tag-to _ e q) o h

@@ -12,8 +12,8 @@ use lib.Dec.{eqb}
 use borrow.Author.Tests.{eq-eqb, ne-eqb}
 use Rattle.reading.specs.Read.{ok, pick}
 use Rattle.reading.specs.Text.{Name, readName}
-use Rattle.reading.specs.Decl.{FieldDecl, readFieldDecl}
-use Rattle.reading.specs.Pattern.{PatternField, readPatternField}
+use Rattle.reading.specs.Decl.{FieldDecl, readTy}
+use Rattle.reading.specs.Pattern.{PatternField, readPatternExpr, readPatternField}
 use Rattle.reading.specs.Skip.{textAt}
 use Rattle.reading.specs.Views.{OptionAt, absent, present}
 use Rattle.reading.proofs.Rules.{no, pick-true, pick-false}
@@ -24,7 +24,7 @@ use Rattle.typing.specs.Causes.{field, blame}
 use Rattle.typing.specs.Names.{eqName, member}
 use Rattle.typing.specs.Patterns.{patternExprCompatible, judged, bound, orElse, judgeField}
 use Rattle.typing.specs.Means.{causeOf, unfitOf, withinOf, blameOf}
-use Rattle.typing.specs.Table.{afterItem, afterHead, Past, exprTypeAt}
+use Rattle.typing.specs.Table.{afterItem, afterHead, exprTypeAt}
 use Rattle.typing.specs.Accepts.{Accepts}
 use Rattle.typing.specs.Blames.{none-bound, more-bound, Binds}
 use Rattle.typing.specs.Fields.{fieldNamed, namedFrom, Passed, unnamed, again, fresh, nameIn, namedOf, NamesField, FitsField, noMore, JudgesField}
@@ -35,10 +35,11 @@ use Rattle.typing.specs.declared.cause.Blame.{Blame}
 use Rattle.typing.specs.declared.cause.Blame.the-variants.{Nothing, Found}
 use Rattle.typing.specs.declared.rules.Fit.{Fit}
 use Rattle.typing.specs.declared.rules.Fit.the-variants.{Fine, Unfit}
+use Rattle.typing.specs.declared.field.Parts.{Parts}
 use Rattle.typing.specs.declared.field.Naming.{Naming}
 use Rattle.typing.specs.declared.field.Naming.the-variants.{Unnamed, Again, Fresh}
 use Rattle.typing.proofs.EnvLaws.{type-is}
-use Rattle.typing.proofs.PartLaws.{option-null, option-there, name-stands, pattern-stands, field-text, field-type}
+use Rattle.typing.proofs.PartLaws.{option-null, option-there, name-stands}
 
 -- whether a field has the name
 module _ (s : List ℕ) (at : ℕ) (w : Name) {k : ℕ} {b : Bool} (h : k ≡ afterHead s at) (e : b ≡ eqb (getD s k 0) 246) where
@@ -84,10 +85,10 @@ field-named-is s at w x n g = go (name-stands s at x n g refl .1)
     go (absent q r) = rw (eq-eqb _ _ q)
     go {k} (present {x = y} {n = m} q r) = rw (ne-eqb _ _ q, name-text s k y m r)
 
-module _ (s : List ℕ) (at first i : ℕ) {k : ℕ} {b : Bool} (h : k ≡ afterHead s at) (e : b ≡ eqb (getD s k 0) 246) where
-  pub name-absent : b ≡ true → NamesField s at first i Unnamed
+module _ (s : List ℕ) (k first i : ℕ) {b : Bool} (e : b ≡ eqb (getD s k 0) 246) where
+  pub name-absent : b ≡ true → NamesField s k first i Unnamed
   unfolding namedOf nameIn
-  name-absent q = record { of = λ x n seen g p. rw (option-null e q (name-stands s at x n g h .1)) }
+  name-absent q = record { of = λ o n seen g p. rw (option-null e q g) }
 
   module _ (q : b ≡ false) {t : Name} {r : Bool} (f : t ≡ textAt s k) (j : r ≡ namedFrom i s first t) where
     name-there : (seen : List Name) → Passed s first i seen → {o : Option Name} {m : ℕ} → OptionAt readName s k o m → pick r (again (textAt s k)) (fresh (textAt s k)) ≡ nameIn seen o
@@ -97,27 +98,23 @@ module _ (s : List ℕ) (at first i : ℕ) {k : ℕ} {b : Bool} (h : k ≡ after
         let z = name-text s k (y .0) m (y .2) in
         rw (y .1, z, j, f ∙ z, p .are (y .0))
 
-    pub name-again : r ≡ true → NamesField s at first i (Again k)
+    pub name-again : r ≡ true → NamesField s k first i (Again k)
     unfolding namedOf
-    name-again z = record { of = λ x n seen g p. rw (z, pick-true) at (name-there seen p (name-stands s at x n g h .1)) }
+    name-again z = record { of = λ o n seen g p. rw (z, pick-true) at (name-there seen p g) }
 
-    pub name-fresh : r ≡ false → NamesField s at first i (Fresh k)
+    pub name-fresh : r ≡ false → NamesField s k first i (Fresh k)
     unfolding namedOf
-    name-fresh z = record { of = λ x n seen g p. rw (z, pick-false) at (name-there seen p (name-stands s at x n g h .1)) }
+    name-fresh z = record { of = λ o n seen g p. rw (z, pick-false) at (name-there seen p g) }
 
 -- the pattern against the declared type
-module _ (s : List ℕ) (at decl : ℕ) {k p t : ℕ} {fit : Fit} (h : k ≡ afterHead s decl) (o : Past s (afterHead s at) p) (u : Past s (afterHead s decl) t) (e : Accepts s p t fit) where
-  fit-is : (x : PatternField) (n : ℕ) (f : FieldDecl) (m : ℕ) → readPatternField s at ≡ ok x n → readFieldDecl s decl ≡ ok f m → unfitOf s fit ≡ patternExprCompatible (x .pattern) (f .ty)
-  fit-is x n f m g i =
-      e .of (x .pattern) n (f .ty) m (pattern-stands s at x n g o) (field-type s decl f m i u)
-
+module _ (s : List ℕ) (at : ℕ) (decl : Parts) {fit : Fit} (e : Accepts s at (decl .under) fit) where
   pub fits-fine : fit ≡ Fine → FitsField s at decl Nothing
   unfolding unfitOf blameOf blame
-  fits-fine q = record { of = λ x n f m g i. rw (sym (fit-is x n f m g i), q) }
+  fits-fine q = record { of = λ p n t m g i. rw (sym (e .of p n t m g i), q) }
 
-  pub fits-not : {c : Cause} → fit ≡ Unfit c → FitsField s at decl (Found (Field k) c)
+  pub fits-not : {c : Cause} → fit ≡ Unfit c → FitsField s at decl (Found (Field (decl .name)) c)
   unfolding unfitOf blameOf blame withinOf
-  fits-not q = record { of = λ x n f m g i. rw (sym (fit-is x n f m g i), q, field-text s decl f m i h) }
+  fits-not q = record { of = λ p n t m g i. rw (sym (e .of p n t m g i), q) }
 
 -- a pair that is put into a table, and one past its end
 pub pair-out : (table : List ℕ) (w a b : ℕ) → length table ≤ w → table ≡ set (set table w a) (w + 1) b
@@ -150,25 +147,28 @@ unfolding pick
 is-fresh true w e = no (cc)
 is-fresh false w e = (refl, cc)
 
-module _ (s : List ℕ) (at decl first i : ℕ) {name : Naming} (table : List ℕ) (w : ℕ) (a : NamesField s at first i name) where
-  pub judge-unnamed : {b : Blame} → name ≡ Unnamed → FitsField s at decl b → JudgesField s at decl first i table w (record { blame = b; words = 0 }) table
+module _ (s : List ℕ) (own decl : Parts) (first i : ℕ) {name : Naming} (table : List ℕ) (w : ℕ) (a : NamesField s (own .name) first i name) where
+  fits-is : {b : Blame} → FitsField s (own .under) decl b → (x : PatternField) (n : ℕ) (f : FieldDecl) (m : ℕ) → readPatternExpr s (own .under) ≡ ok (x .pattern) n → textAt s (decl .name) ≡ f .name → readTy s (decl .under) ≡ ok (f .ty) m → blameOf s b ≡ blame (field (f .name)) (patternExprCompatible (x .pattern) (f .ty))
+  fits-is e x n f m h l d = rw l at (e .of (x .pattern) n (f .ty) m h d)
+
+  pub judge-unnamed : {b : Blame} → name ≡ Unnamed → FitsField s (own .under) decl b → JudgesField s own decl first i table w (record { blame = b; words = 0 }) table
   unfolding namedOf nameIn judgeField
   judge-unnamed {b} q e = record {
     few = omega arith;
     kept = refl;
-    of = λ x n f m seen g d p. go seen x f (x .name) (sym (ap (namedOf s) q) ∙ a .of x n seen g p) (e .of x n f m g d);
+    of = λ x k n f m seen g h l d p. go seen x f (x .name) (sym (ap (namedOf s) q) ∙ a .of (x .name) k seen g p) (fits-is e x n f m h l d);
   }
     where
       go : (seen : List Name) (x : PatternField) (f : FieldDecl) (o : Option Name) → unnamed ≡ nameIn seen o → blameOf s b ≡ blame (field (f .name)) (patternExprCompatible (x .pattern) (f .ty)) → Binds s table w (judgeField noMore seen f x o) (record { blame = b; words = 0 }) table
       go seen x f none z i = rw orElse-none (record { fault = i; pairs = []; are = none-bound; many = refl; words = refl })
       go seen x f (some n) z i = absurd (not-unnamed (member n seen) n z)
 
-  pub judge-again : {k : ℕ} → name ≡ Again k → JudgesField s at decl first i table w (record { blame = Found Alone (DuplicateBinding k); words = 0 }) table
+  pub judge-again : {k : ℕ} → name ≡ Again k → JudgesField s own decl first i table w (record { blame = Found Alone (DuplicateBinding k); words = 0 }) table
   unfolding namedOf nameIn judgeField pick blameOf withinOf causeOf blame
   judge-again {k} q = record {
     few = omega arith;
     kept = refl;
-    of = λ x n f m seen g d p. go seen x f (x .name) (sym (ap (namedOf s) q) ∙ a .of x n seen g p);
+    of = λ x l n f m seen g h o d p. go seen x f (x .name) (sym (ap (namedOf s) q) ∙ a .of (x .name) l seen g p);
   }
     where
       go : (seen : List Name) (x : PatternField) (f : FieldDecl) (o : Option Name) → again (textAt s k) ≡ nameIn seen o → Binds s table w (judgeField noMore seen f x o) (record { blame = Found Alone (DuplicateBinding k); words = 0 }) table
@@ -177,17 +177,17 @@ module _ (s : List ℕ) (at decl first i : ℕ) {name : Naming} (table : List �
           let a = is-again (member n seen) n z in
           rw (a .0) (record { fault = rw (a .1); pairs = []; are = none-bound; many = refl; words = refl })
 
-  pub judge-fresh : {k ty : ℕ} {table′ : List ℕ} {b : Blame} → name ≡ Fresh k → Past s (afterHead s decl) ty → table′ ≡ set (set table w k) (w + 1) ty → FitsField s at decl b → JudgesField s at decl first i table w (record { blame = b; words = 2 }) table′
+  pub judge-fresh : {k : ℕ} {table′ : List ℕ} {b : Blame} → name ≡ Fresh k → table′ ≡ set (set table w k) (w + 1) (decl .under) → FitsField s (own .under) decl b → JudgesField s own decl first i table w (record { blame = b; words = 2 }) table′
   unfolding namedOf nameIn judgeField pick bound
-  judge-fresh {k} {ty} {table′} {b} q o t e = record {
+  judge-fresh {k} {table′} {b} q t e = record {
     few = omega arith;
-    kept = ap (take w) t ∙ take-set-le w (set table w k) (w + 1) ty (omega arith) ∙ take-set-le w table w k (omega arith);
-    of = λ x n f m seen g d p.
-        go seen x f (x .name) (sym (ap (namedOf s) q) ∙ a .of x n seen g p) (e .of x n f m g d) (type-is s ty (f .ty) m (field-type s decl f m d o));
+    kept = ap (take w) t ∙ take-set-le w (set table w k) (w + 1) (decl .under) (omega arith) ∙ take-set-le w table w k (omega arith);
+    of = λ x l n f m seen g h o d p.
+        go seen x f (x .name) (sym (ap (namedOf s) q) ∙ a .of (x .name) l seen g p) (fits-is e x n f m h o d) (type-is s (decl .under) (f .ty) m d);
   }
     where
-      go : (seen : List Name) (x : PatternField) (f : FieldDecl) (o : Option Name) → fresh (textAt s k) ≡ nameIn seen o → blameOf s b ≡ blame (field (f .name)) (patternExprCompatible (x .pattern) (f .ty)) → exprTypeAt s ty ≡ typeToExprType (f .ty) → Binds s table w (judgeField noMore seen f x o) (record { blame = b; words = 2 }) table′
+      go : (seen : List Name) (x : PatternField) (f : FieldDecl) (o : Option Name) → fresh (textAt s k) ≡ nameIn seen o → blameOf s b ≡ blame (field (f .name)) (patternExprCompatible (x .pattern) (f .ty)) → exprTypeAt s (decl .under) ≡ typeToExprType (f .ty) → Binds s table w (judgeField noMore seen f x o) (record { blame = b; words = 2 }) table′
       go seen x f none z i y = no (cc)
       go seen x f (some n) z i y =
           let a = is-fresh (member n seen) n z in
-          rw (a .0, orElse-none) (record { fault = i; pairs = k ∷ (ty ∷ []); are = more-bound (a .1) y none-bound; many = refl; words = t ∙ rw (add-one w) })
+          rw (a .0, orElse-none) (record { fault = i; pairs = k ∷ (decl .under ∷ []); are = more-bound (a .1) y none-bound; many = refl; words = t ∙ rw (add-one w) })

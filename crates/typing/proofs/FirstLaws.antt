@@ -4,30 +4,40 @@ use mathlib.Core.Path.{_≡_, refl, sym, ap, subst, _∙_}
 use mathlib.Core.Bool.{Bool, true, false}
 use mathlib.Core.List.{List, [], _∷_}
 use mathlib.Core.Option.{Option, none, some}
+use native.Mathlib.Omega.{arith}
 use Rattle.reading.specs.Read.{Reader, ok, pick}
 use Rattle.reading.specs.Limits.{maxList}
-use Rattle.reading.specs.Item.{readCount}
+use Rattle.reading.specs.Item.{readCount, readTag}
 use Rattle.reading.specs.Text.{Name}
 use Rattle.reading.specs.Decl.{EnumDecl, ConstructorVariant, ConstructorGroup, readEnumDecl, readConstructorVariant, readConstructorGroup}
 use Rattle.reading.specs.Skip.{textAt}
+use Rattle.reading.specs.Link.{taggedOf}
 use Rattle.reading.specs.Views.{ConstructorVariantAt, unit-variant, struct-variant}
+use Rattle.reading.specs.declared.cursor.Cursor.{Cursor}
+use Rattle.reading.specs.declared.fault.Fault.{Fault}
+use Rattle.reading.specs.declared.item.Tag.{Tag}
+use Rattle.reading.specs.declared.item.Tagged.{Tagged}
+use Rattle.reading.specs.declared.item.Tagged.the-variants as tagged
 use Rattle.reading.proofs.Rules.{no}
-use Rattle.reading.proofs.DeclLaws.{enum-decl-laws, constructor-variant-laws, constructor-group-laws}
-use Rattle.reading.proofs.CaseViews.{constructor-variant-at}
+use Rattle.reading.proofs.ListLaws.{list-laws}
+use Rattle.reading.proofs.ExprLaws.{name-laws}
+use Rattle.reading.proofs.DeclLaws.{field-decl-laws}
+use Rattle.reading.proofs.CaseViews.{constructor-variant-at, by-tag}
 use Rattle.reading.proofs.Walks.{name-text}
 use Rattle.typing.specs.Causes.{firstOf}
 use Rattle.typing.specs.Names.{eqName, called, firstCalled}
 use Rattle.typing.specs.Patterns.{declaredName}
-use Rattle.typing.specs.Table.{placeAfter, afterHead, afterTag, Past}
-use Rattle.typing.specs.First.{FoundAt, found-here, found-nothing, groupName, enumName, First, FirstGroup, FirstEnum, FirstVariant}
+use Rattle.typing.specs.Table.{placeAfter, afterItem, afterHead, afterTag, Past}
+use Rattle.typing.specs.First.{FoundAt, found-here, found-nothing, groupName, enumName, First, FirstGroup, FirstEnum, FirstVariant, PastVariant}
 use Rattle.typing.specs.Entries.{opened}
 use Rattle.typing.specs.declared.entries.Entries.{Entries}
 use Rattle.typing.specs.declared.table.Found.{Found}
 use Rattle.typing.specs.declared.table.Found.the-variants.{At, Nothing}
 use Rattle.typing.proofs.NameLaws.{eqName-eq}
+use Rattle.typing.proofs.TableLaws.{tag-was, tag-out}
 use Rattle.typing.proofs.EnvLaws.{after-is}
 use Rattle.typing.proofs.EntryLaws.{entered, Scanning, scan-done, scan-turn, scan-next}
-use Rattle.typing.proofs.PartLaws.{group-text, enum-text}
+use Rattle.typing.proofs.PartLaws.{past-at, group-text, group-ends, enum-text, enum-ends}
 
 -- what was found, from what the code learnt of it
 module _ {A : Type 0} {F : Reader A} {s : List ℕ} where
@@ -81,37 +91,65 @@ variant-text s k x n e = let u = constructor-variant-at s k x n e in rw (u .tagg
     go {m} (unit-variant q) = name-text s m _ _ q
     go {m} (struct-variant q r) = name-text s m _ _ q
 
--- by the place of the name in each kind of entry
-module _ (s : List ℕ) (at : ℕ) (w : Name) {e : Entries} (o : e ≡ opened (readCount maxList s at)) (left k : ℕ) (z : 0 < left) {key : ℕ} {text : Name} {b : Bool} (t : text ≡ textAt s key) (f : b ≡ eqName text w) where
-  -- records
-  module _ (i : key ≡ afterHead s k) where
-    module _ (g : Seeking readConstructorGroup groupName s w (e .many) (e .first) left k) where
-      group-called : (x : ConstructorGroup) (n : ℕ) → readConstructorGroup s k ≡ ok x n → b ≡ eqName (groupName x) w
-      group-called x n q = f ∙ ap (λ (y : Name). eqName y w) (t ∙ ap (textAt s) i ∙ group-text s k x n q)
+-- records: the name stands after the head, and one more field after the name
+module _ (s : List ℕ) (at : ℕ) (w : Name) {e : Entries} (o : e ≡ opened (readCount maxList s at)) (left k : ℕ) (z : 0 < left) {key : ℕ} {text : Name} {b : Bool} (t : text ≡ textAt s key) (f : b ≡ eqName text w) (i : key ≡ afterHead s k) where
+  module _ (g : Seeking readConstructorGroup groupName s w (e .many) (e .first) left k) where
+    group-called : (x : ConstructorGroup) (n : ℕ) → readConstructorGroup s k ≡ ok x n → b ≡ eqName (groupName x) w
+    group-called x n q = f ∙ ap (λ (y : Name). eqName y w) (t ∙ ap (textAt s) i ∙ group-text s k x n q)
 
-      pub group-hit : b ≡ true → FirstGroup s at w (At k)
-      group-hit = hit readConstructorGroup groupName s at w o left k g z group-called
+    pub group-hit : b ≡ true → FirstGroup s at w (At k)
+    group-hit = hit readConstructorGroup groupName s at w o left k g z group-called
 
-      pub group-miss : {k' : ℕ} → b ≡ false → Past s k k' → Seeking readConstructorGroup groupName s w (e .many) (e .first) (left - 1) k'
-      group-miss y p = miss readConstructorGroup groupName s at w o left k g z group-called y λ x n q. p .is ∙ after-is constructor-group-laws s (p .each) k x n q
+    pub group-miss : {under k' : ℕ} → b ≡ false → Past s key under → Past s under k' → Seeking readConstructorGroup groupName s w (e .many) (e .first) (left - 1) k'
+    group-miss y u p = miss readConstructorGroup groupName s at w o left k g z group-called y λ x n q. group-ends s k x n q (past-at i u) p
 
-    module _ (g : Seeking readEnumDecl enumName s w (e .many) (e .first) left k) where
-      enum-called : (x : EnumDecl) (n : ℕ) → readEnumDecl s k ≡ ok x n → b ≡ eqName (enumName x) w
-      enum-called x n q = f ∙ ap (λ (y : Name). eqName y w) (t ∙ ap (textAt s) i ∙ enum-text s k x n q)
+  module _ (g : Seeking readEnumDecl enumName s w (e .many) (e .first) left k) where
+    enum-called : (x : EnumDecl) (n : ℕ) → readEnumDecl s k ≡ ok x n → b ≡ eqName (enumName x) w
+    enum-called x n q = f ∙ ap (λ (y : Name). eqName y w) (t ∙ ap (textAt s) i ∙ enum-text s k x n q)
 
-      pub enum-hit : b ≡ true → FirstEnum s at w (At k)
-      enum-hit = hit readEnumDecl enumName s at w o left k g z enum-called
+    pub enum-hit : b ≡ true → FirstEnum s at w (At k)
+    enum-hit = hit readEnumDecl enumName s at w o left k g z enum-called
 
-      pub enum-miss : {k' : ℕ} → b ≡ false → Past s k k' → Seeking readEnumDecl enumName s w (e .many) (e .first) (left - 1) k'
-      enum-miss y p = miss readEnumDecl enumName s at w o left k g z enum-called y λ x n q. p .is ∙ after-is enum-decl-laws s (p .each) k x n q
+    pub enum-miss : {under k' : ℕ} → b ≡ false → Past s key under → Past s under k' → Seeking readEnumDecl enumName s w (e .many) (e .first) (left - 1) k'
+    enum-miss y u p = miss readEnumDecl enumName s at w o left k g z enum-called y λ x n q. enum-ends s k x n q (past-at i u) p
 
-  -- variants
-  module _ (i : key ≡ afterTag s k) (g : Seeking readConstructorVariant declaredName s w (e .many) (e .first) left k) where
+-- after a declared variant: past its name, or past its fields
+module _ (s : List ℕ) (name case : ℕ) {fields : ℕ} (o : Past s name fields) where
+  pub unit-ends : case ≡ 0 → PastVariant s name case fields
+  unit-ends z = record { of = λ x n v. go v z }
+    where
+      go : {c : ℕ} {x : ConstructorVariant} {n : ℕ} → ConstructorVariantAt s name c x n → c ≡ 0 → fields ≡ n
+      go (unit-variant q) i = o .is ∙ after-is name-laws s (o .each) name _ _ q
+      go (struct-variant q r) i = absurd (omega arith)
+
+  pub struct-ends : {next : ℕ} → (case ≡ 0 → ⊥) → Past s fields next → PastVariant s name case next
+  struct-ends {next} z p = record { of = λ x n v. go v z }
+    where
+      go : {c : ℕ} {x : ConstructorVariant} {n : ℕ} → ConstructorVariantAt s name c x n → (c ≡ 0 → ⊥) → next ≡ n
+      go (unit-variant q) i = absurd (i refl)
+      go (struct-variant q r) i =
+          p .is
+          ∙ ap (afterItem s) (o .is ∙ after-is name-laws s (o .each) name _ _ q)
+          ∙ after-is (list-laws field-decl-laws maxList (omega arith)) s (o .each) _ _ _ r
+
+-- variants: the head says where the name stands, and the case whether there is more
+module _ (s : List ℕ) (at : ℕ) (w : Name) {e : Entries} (o : e ≡ opened (readCount maxList s at)) (left k : ℕ) (z : 0 < left) (g : Seeking readConstructorVariant declaredName s w (e .many) (e .first) left k) {a : Tagged} (h : a ≡ taggedOf (readTag s k)) where
+  pub variant-none : {f : Fault} {p : ℕ} → a ≡ tagged.Refused f p → FirstVariant s at w Nothing
+  variant-none q = record {
+    of = λ xs n i.
+        let u = scan-turn g z xs (entered readConstructorVariant s at o xs n i) in
+        let v = constructor-variant-at s k (u .head) (u .end) (u .here) .tagged in
+        let x = tag-out _ h q in
+        no (cc);
+  }
+
+  module _ {t : Tag} {c : Cursor} (q : a ≡ tagged.Case t c) {text : Name} {b : Bool} (i : text ≡ textAt s (c .at)) (f : b ≡ eqName text w) where
     variant-called : (x : ConstructorVariant) (n : ℕ) → readConstructorVariant s k ≡ ok x n → b ≡ eqName (declaredName x) w
-    variant-called x n q = f ∙ ap (λ (y : Name). eqName y w) (t ∙ ap (textAt s) i ∙ variant-text s k x n q)
+    unfolding placeAfter
+    variant-called x n r = f ∙ ap (λ (y : Name). eqName y w) (i ∙ ap (textAt s) (sym (ap placeAfter (tag-was _ h q))) ∙ variant-text s k x n r)
 
     pub variant-hit : b ≡ true → FirstVariant s at w (At k)
     variant-hit = hit readConstructorVariant declaredName s at w o left k g z variant-called
 
-    pub variant-miss : {k' : ℕ} → b ≡ false → Past s k k' → Seeking readConstructorVariant declaredName s w (e .many) (e .first) (left - 1) k'
-    variant-miss y p = miss readConstructorVariant declaredName s at w o left k g z variant-called y λ x n q. p .is ∙ after-is constructor-variant-laws s (p .each) k x n q
+    pub variant-miss : {k' : ℕ} → b ≡ false → PastVariant s (c .at) (t .case) k' → Seeking readConstructorVariant declaredName s w (e .many) (e .first) (left - 1) k'
+    variant-miss y p = miss readConstructorVariant declaredName s at w o left k g z variant-called y λ x n r. p .of x n (by-tag (constructor-variant-at s k x n r) (tag-was _ h q))

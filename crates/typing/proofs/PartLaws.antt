@@ -4,6 +4,7 @@ use mathlib.Core.Path.{_≡_, refl, sym, ap, subst, _∙_}
 use mathlib.Core.Bool.{Bool, true, false}
 use mathlib.Core.List.{List}
 use mathlib.Core.Option.{Option, none, some}
+use native.Mathlib.Omega.{arith}
 use lib.ListN.{getD}
 use lib.Dec.{eqb}
 use borrow.Author.Tests.{eq-eqb, ne-eqb}
@@ -11,13 +12,16 @@ use Rattle.reading.specs.Read.{Reader, ok}
 use Rattle.reading.specs.Limits.{maxList}
 use Rattle.reading.specs.Combine.{listOf, optional}
 use Rattle.reading.specs.Text.{readName}
-use Rattle.reading.specs.Decl.{FieldDecl, EnumDecl, ConstructorGroup, readTy, readFieldDecl, readEnumDecl, readConstructorVariant, readConstructorGroup}
+use Rattle.reading.specs.Decl.{FieldDecl, EnumDecl, ConstructorGroup, readNames, readTy, readFieldDecl, readEnumDecl, readConstructorVariant, readConstructorGroup}
 use Rattle.reading.specs.Pattern.{PatternField, PatternVariant, Pattern, readPatternExpr, readPatternField, readPatternVariant, readPattern}
 use Rattle.reading.specs.Skip.{textAt}
 use Rattle.reading.specs.Views.{OptionAt, absent, present, PatternVariantAt, unit-pattern, struct-pattern}
 use Rattle.reading.proofs.Rules.{no}
+use Rattle.reading.proofs.ListLaws.{list-laws}
 use Rattle.reading.proofs.OptionLaws.{option-laws}
 use Rattle.reading.proofs.ExprLaws.{name-laws, name-solid}
+use Rattle.reading.proofs.DeclLaws.{names-laws, ty-laws, constructor-variant-laws}
+use Rattle.reading.proofs.PatternLaws.{pattern-expr-laws}
 use Rattle.reading.proofs.Views.{field-decl-at, enum-decl-at, constructor-group-at, pattern-field-at, pattern-at}
 use Rattle.reading.proofs.CaseViews.{pattern-variant-at}
 use Rattle.reading.proofs.ListViews.{option-at}
@@ -55,6 +59,9 @@ module _ (s : List ℕ) (at : ℕ) where
         let i : p ≡ v .ty = o .is ∙ ap (afterItem s) (fields-head 2 s at tt (v .name) (v .opens)) ∙ after-is name-laws s (o .each) (v .name) (x .name) (v .ty) (v .name-is) in
         ap (readTy s) i ∙ v .ty-is
 
+    pub field-ends : {p q : ℕ} → Past s (afterHead s at) p → Past s p q → q ≡ n
+    field-ends {p} o w = w .is ∙ after-is ty-laws s (w .each) p (x .ty) n (field-type o)
+
   module _ (x : ConstructorGroup) (n : ℕ) (g : readConstructorGroup s at ≡ ok x n) where
     pub group-text : textAt s (afterHead s at) ≡ groupName x
     group-text =
@@ -67,10 +74,20 @@ module _ (s : List ℕ) (at : ℕ) where
         let i : p ≡ v .variants = o .is ∙ ap (afterItem s) (fields-head 2 s at tt (v .name) (v .opens)) ∙ after-is name-laws s (o .each) (v .name) (x .name) (v .variants) (v .name-is) in
         ap (listOf maxList readConstructorVariant s) i ∙ v .variants-is
 
-  pub enum-text : (x : EnumDecl) (n : ℕ) → readEnumDecl s at ≡ ok x n → textAt s (afterHead s at) ≡ enumName x
-  enum-text x n g =
-      let v = enum-decl-at s at x n g in
-      ap (textAt s) (fields-head 2 s at tt (v .name) (v .opens)) ∙ name-text s (v .name) (x .name) (v .variants) (v .name-is)
+    pub group-ends : {p q : ℕ} → Past s (afterHead s at) p → Past s p q → q ≡ n
+    group-ends {p} o w = w .is ∙ after-is (list-laws constructor-variant-laws maxList (omega arith)) s (w .each) p (x .variants) n (group-variants o)
+
+  module _ (x : EnumDecl) (n : ℕ) (g : readEnumDecl s at ≡ ok x n) where
+    pub enum-text : textAt s (afterHead s at) ≡ enumName x
+    enum-text =
+        let v = enum-decl-at s at x n g in
+        ap (textAt s) (fields-head 2 s at tt (v .name) (v .opens)) ∙ name-text s (v .name) (x .name) (v .variants) (v .name-is)
+
+    pub enum-ends : {p q : ℕ} → Past s (afterHead s at) p → Past s p q → q ≡ n
+    enum-ends {p} o w =
+        let v = enum-decl-at s at x n g in
+        let i : p ≡ v .variants = o .is ∙ ap (afterItem s) (fields-head 2 s at tt (v .name) (v .opens)) ∙ after-is name-laws s (o .each) (v .name) (x .name) (v .variants) (v .name-is) in
+        w .is ∙ after-is names-laws s (w .each) p (x .variants) n (ap (readNames s) i ∙ v .variants-is)
 
   module _ (x : PatternField) (n : ℕ) (g : readPatternField s at ≡ ok x n) where
     pub name-stands : {k : ℕ} → k ≡ afterHead s at → (m : ℕ) × OptionAt readName s k (x .name) m
@@ -84,6 +101,9 @@ module _ (s : List ℕ) (at : ℕ) where
         let v = pattern-field-at s at x n g in
         let i : p ≡ v .pattern = o .is ∙ ap (afterItem s) (fields-head 2 s at tt (v .name) (v .opens)) ∙ after-is (option-laws name-laws name-solid) s (o .each) (v .name) (x .name) (v .pattern) (v .name-is) in
         ap (readPatternExpr s) i ∙ v .pattern-is
+
+    pub pattern-ends : {p q : ℕ} → Past s (afterHead s at) p → Past s p q → q ≡ n
+    pattern-ends {p} o w = w .is ∙ after-is pattern-expr-laws s (w .each) p (x .pattern) n (pattern-stands o)
 
   module _ (x : Pattern) (n : ℕ) (g : readPattern s at ≡ ok x n) {k : ℕ} (h : k ≡ afterHead s at) where
     pub pattern-group : textAt s k ≡ x .group

@@ -1,19 +1,19 @@
 -- What each step of a path's meaning gives, over whatever the code is given.
-use Prim.Native.Nat.{ℕ, _<_, _≤_}
+use Prim.Native.Nat.{ℕ, _+_, _<_, _≤_}
 use mathlib.Core.Path.{_≡_, refl, sym, ap, subst, _∙_}
 use mathlib.Core.Bool.{Bool, true, false}
 use mathlib.Core.List.{List, [], _∷_}
 use mathlib.Core.Option.{Option, none, some}
 use native.Mathlib.Omega.{arith}
-use lib.ListN.{length}
+use lib.ListN.{length, getD}
 use borrow.Author.Tests.{lt-ltb, le-ltb}
-use Rattle.reading.specs.Read.{ok, pick}
+use Rattle.reading.specs.Read.{ok, pick, bind}
 use Rattle.reading.specs.Text.{Name}
 use Rattle.reading.specs.Limits.{maxPath}
-use Rattle.reading.specs.Item.{readCount}
+use Rattle.reading.specs.Item.{readKind, readCount}
 use Rattle.reading.specs.Text.{readName}
 use Rattle.reading.specs.Expr.{readPath}
-use Rattle.reading.specs.Views.{Rest}
+use Rattle.reading.specs.Views.{Rest, ListAt}
 use Rattle.reading.specs.Link.{answer}
 use Rattle.reading.specs.Skip.{textAt}
 use Rattle.reading.specs.declared.cursor.Cursor.{Cursor}
@@ -23,15 +23,16 @@ use Rattle.reading.specs.declared.item.Answer.the-variants.{Got, Refused}
 use Rattle.reading.proofs.Rules.{no}
 use Rattle.reading.proofs.Answers.{num, out}
 use Rattle.reading.proofs.HeadSound.{Bytes}
-use Rattle.reading.proofs.ExprLaws.{name-laws}
-use Rattle.reading.proofs.ListViews.{list-at, rest-all, turn}
+use Rattle.reading.proofs.ExprLaws.{name-laws, path-laws}
+use Rattle.reading.proofs.ListViews.{list-at, rest-all, rest-none, turn}
 use Rattle.reading.proofs.Walks.{passed, name-text}
 use Rattle.typing.specs.Causes.{firstOf}
 use Rattle.typing.specs.Names.{eqName, stateWord, stateEnum}
 use Rattle.typing.specs.Env.{given, stateVariants}
 use Rattle.typing.specs.Typing.{resolveState, orState, resolveName, resolveVariant, resolvePath}
 use Rattle.typing.specs.Means.{tyOf, causeOf, typedOf, outcome}
-use Rattle.typing.specs.Table.{placeAfter, afterItem, findIn, found, exprTypeAt, memberAt, typeFound, variantFound, envAt}
+use Rattle.typing.specs.Tells.{Ends}
+use Rattle.typing.specs.Table.{placeAfter, afterItem, Past, findIn, found, exprTypeAt, memberAt, typeFound, variantFound, envAt}
 use Rattle.typing.specs.Typed.{Resolves}
 use Rattle.typing.specs.declared.ty.Ty.{Ty}
 use Rattle.typing.specs.declared.ty.Ty.the-variants as ty
@@ -40,6 +41,8 @@ use Rattle.typing.specs.declared.table.Found.the-variants.{At, Nothing}
 use Rattle.typing.specs.declared.cause.Typed.{Typed}
 use Rattle.typing.specs.declared.cause.Typed.the-variants.{Is, Fails}
 use Rattle.typing.specs.declared.cause.Cause.the-variants.{UnknownIdentifier, UnknownEnum, UnknownVariant, PathLength, EmptyPath}
+use Rattle.typing.proofs.ShortLaws.{head-one}
+use Rattle.typing.proofs.EnvLaws.{after-is}
 
 -- what a search found
 pub found-at : (o : Option ℕ) {f : Found} {at : ℕ} → f ≡ found o → f ≡ At at → o ≡ some at
@@ -192,3 +195,24 @@ module _ (s names enums : List ℕ) (at next : ℕ) {a : Answer} (e : a ≡ answ
             let a1 : textAt s (c .at) ≡ x = name-text s (c .at) (t .entry) (t .end) (t .here) ∙ sym v in
             let a2 : textAt s (afterItem s (c .at)) ≡ y = ap (textAt s) k ∙ name-text s (t .end) (t' .entry) (t' .end) (t' .here) ∙ sym v' in
             rw (a1, a2, sym i) at h
+
+-- a path ends where the item does, and one of one name where the name does
+pub path-ends : (s : List ℕ) (at : ℕ) {r : ℕ} → Past s at r → Ends (readPath s at) r
+path-ends s at o = record { of = λ p n g. o .is ∙ after-is path-laws s (o .each) at p n g }
+
+pub name-ends : (s : List ℕ) (at : ℕ) {r : ℕ} → at < length s → getD s at 0 ≡ 129 → Past s (at + 1) r → Ends (readPath s at) r
+unfolding readPath readCount readKind bind pick
+name-ends s at {r} h b o = record { of = λ p n g. go p n (list-at readName s maxPath at p n g) }
+  where
+    opens : readCount maxPath s at ≡ ok 1 (at + 1)
+    opens = rw (head-one s at h 4 1 (omega arith) (omega arith) (omega arith) (omega arith))
+
+    go : (p : List Name) (n : ℕ) → ListAt maxPath readName s at p n → r ≡ n
+    go p n l =
+        let u = l .opens in
+        let v = opens in
+        let i : length p ≡ 1 = cc in
+        let j : l .first ≡ at + 1 = cc in
+        let t = turn readName s (omega arith) (rest-all readName s l) in
+        let k = after-is name-laws s (o .each) (l .first) (t .entry) (t .end) (t .here) in
+        o .is ∙ ap (afterItem s) (sym j) ∙ k ∙ rest-none readName s (omega arith) (t .next)

@@ -5,7 +5,8 @@ use mathlib.Core.List.{List}
 use native.Mathlib.Omega.{arith}
 use Rattle.reading.specs.Read.{ok}
 use Rattle.reading.specs.Item.{readCase, readTag}
-use Rattle.reading.specs.Expr.{Expr, unaryOps, binOps, readExpr}
+use Rattle.reading.specs.Limits.{maxU64}
+use Rattle.reading.specs.Expr.{Expr, unaryOps, binOps, readPath, readExpr}
 use Rattle.reading.specs.Link.{answer, taggedOf}
 use Rattle.reading.specs.Views.{ExprAt, int-expr, bool-expr, path-expr, unary-expr, binary-expr}
 use Rattle.reading.specs.declared.cursor.Cursor.{Cursor}
@@ -17,6 +18,7 @@ use Rattle.reading.specs.declared.item.Tagged.{Tagged}
 use Rattle.reading.specs.declared.item.Tagged.the-variants as tagged
 use Rattle.reading.proofs.Rules.{no}
 use Rattle.reading.proofs.Answers.{num, out}
+use Rattle.reading.proofs.ItemLaws.{number-laws, bool-laws}
 use Rattle.reading.proofs.ExprLaws.{expr-laws}
 use Rattle.reading.proofs.CaseViews.{expr-at, by-tag}
 use Rattle.reading.proofs.Walks.{passed}
@@ -36,6 +38,7 @@ use Rattle.typing.specs.declared.cause.Cause.{Cause}
 use Rattle.typing.specs.declared.cause.Typed.{Typed}
 use Rattle.typing.specs.declared.cause.Typed.the-variants.{Is, Fails}
 use Rattle.typing.proofs.TableLaws.{tag-was, tag-out}
+use Rattle.typing.proofs.EnvLaws.{after-is}
 use Rattle.typing.proofs.Depends.{type-agree}
 
 -- an expression ends where the item does
@@ -44,12 +47,12 @@ unfolding placeAfter
 expr-ends d s at e = record { of = λ x n q. e .is ∙ ap placeAfter (passed (expr-laws d) s (e .each) at x n q) }
 
 -- an answer that was taken apart
-type-was : (a : TypeAnswer) {t : ExprType} {m n : ℕ} → good t m ≡ outcome n a → (a ≡ is t) × (m ≡ n)
+pub type-was : (a : TypeAnswer) {t : ExprType} {m n : ℕ} → good t m ≡ outcome n a → (a ≡ is t) × (m ≡ n)
 unfolding outcome
 type-was (is u) e = (ap is (cc), cc)
 type-was (fails c) e = no (cc)
 
-cause-was : (a : TypeAnswer) (n : ℕ) {c : causes.Cause} → bad c ≡ outcome n a → a ≡ fails c
+pub cause-was : (a : TypeAnswer) (n : ℕ) {c : causes.Cause} → bad c ≡ outcome n a → a ≡ fails c
 unfolding outcome
 cause-was (is u) n e = no (cc)
 cause-was (fails d) n e = cc
@@ -88,29 +91,29 @@ module _ (env : Env) (d : ℕ) (s : List ℕ) (at : ℕ) (r : Typed) where
 
 -- by the case
 module _ (env : Env) {d : ℕ} {s : List ℕ} {m : ℕ} where
-  int-type : {k : ℕ} {e : Expr} {n : ℕ} → ExprAt d s m k e n → k ≡ 0 → typeExpr env e ≡ is intLit
+  int-type : {k : ℕ} {e : Expr} {n next : ℕ} → ExprAt d s m k e n → k ≡ 0 → Past s m next → (typeExpr env e ≡ is intLit) × (next ≡ n)
   unfolding typeExpr
-  int-type (int-expr q) z = refl
-  int-type (bool-expr q) z = absurd (omega arith)
-  int-type (path-expr q) z = absurd (omega arith)
-  int-type (unary-expr q r) z = absurd (omega arith)
-  int-type (binary-expr q r t) z = absurd (omega arith)
+  int-type (int-expr q) z o = (refl, o .is ∙ after-is (number-laws maxU64 (omega arith)) s (o .each) m _ _ q)
+  int-type (bool-expr q) z o = absurd (omega arith)
+  int-type (path-expr q) z o = absurd (omega arith)
+  int-type (unary-expr q r) z o = absurd (omega arith)
+  int-type (binary-expr q r t) z o = absurd (omega arith)
 
-  bool-type : {k : ℕ} {e : Expr} {n : ℕ} → ExprAt d s m k e n → k ≡ 1 → typeExpr env e ≡ is bool
+  bool-type : {k : ℕ} {e : Expr} {n next : ℕ} → ExprAt d s m k e n → k ≡ 1 → Past s m next → (typeExpr env e ≡ is bool) × (next ≡ n)
   unfolding typeExpr
-  bool-type (int-expr q) z = absurd (omega arith)
-  bool-type (bool-expr q) z = refl
-  bool-type (path-expr q) z = absurd (omega arith)
-  bool-type (unary-expr q r) z = absurd (omega arith)
-  bool-type (binary-expr q r t) z = absurd (omega arith)
+  bool-type (int-expr q) z o = absurd (omega arith)
+  bool-type (bool-expr q) z o = (refl, o .is ∙ after-is bool-laws s (o .each) m _ _ q)
+  bool-type (path-expr q) z o = absurd (omega arith)
+  bool-type (unary-expr q r) z o = absurd (omega arith)
+  bool-type (binary-expr q r t) z o = absurd (omega arith)
 
-  path-type : {k : ℕ} {e : Expr} {n : ℕ} (r : Typed) (next : ℕ) → ExprAt d s m k e n → k ≡ 2 → Resolves env s m next r → typedOf s r ≡ outcome next (typeExpr env e)
+  path-type : {k : ℕ} {e : Expr} {n : ℕ} (r : Typed) (next : ℕ) → ExprAt d s m k e n → k ≡ 2 → Ends (readPath s m) next → Resolves env s m next r → typedOf s r ≡ outcome n (typeExpr env e)
   unfolding typeExpr
-  path-type r next (int-expr q) z h = absurd (omega arith)
-  path-type r next (bool-expr q) z h = absurd (omega arith)
-  path-type r next (path-expr q) z h = h .of _ _ q
-  path-type r next (unary-expr q t) z h = absurd (omega arith)
-  path-type r next (binary-expr q t u) z h = absurd (omega arith)
+  path-type r next (int-expr q) z g h = absurd (omega arith)
+  path-type r next (bool-expr q) z g h = absurd (omega arith)
+  path-type {e = e} r next (path-expr q) z g h = subst (λ (i : ℕ). typedOf s r ≡ outcome i (typeExpr env e)) (g .of _ _ q) (h .of _ _ q)
+  path-type r next (unary-expr q t) z g h = absurd (omega arith)
+  path-type r next (binary-expr q t u) z g h = absurd (omega arith)
 
   unary-type : {k : ℕ} {e : Expr} {n : ℕ} (r : Typed) → ExprAt d s m k e n → k ≡ 3 → TypesUnary env d s m r → typedOf s r ≡ outcome n (typeExpr env e)
   unary-type r (int-expr q) z h = absurd (omega arith)
@@ -135,16 +138,16 @@ module _ (env : Env) {d : ℕ} {s : List ℕ} {m : ℕ} where
 
 -- the arms
 module _ (env : Env) (d : ℕ) (s : List ℕ) (at : ℕ) {a : Tagged} {t : Tag} {c : Cursor} (z : d ≡ 0 → ⊥) (e : a ≡ taggedOf (readTag s at)) (q : a ≡ tagged.Case t c) where
-  pub arm-int : {next : ℕ} → t .case ≡ 0 → Ends (readExpr d s at) next → Types env d s at (Is ty.IntLit next)
+  pub arm-int : {next : ℕ} → t .case ≡ 0 → Past s (c .at) next → Types env d s at (Is ty.IntLit next)
   unfolding typedOf outcome tyOf
-  arm-int k g = record { of = λ x n w. rw (int-type env (fields-are d s at e z q x n w) k, g .of x n w) }
+  arm-int k o = record { of = λ x n w. let y = int-type env (fields-are d s at e z q x n w) k o in rw (y .0, y .1) }
 
-  pub arm-bool : {next : ℕ} → t .case ≡ 1 → Ends (readExpr d s at) next → Types env d s at (Is ty.Bool next)
+  pub arm-bool : {next : ℕ} → t .case ≡ 1 → Past s (c .at) next → Types env d s at (Is ty.Bool next)
   unfolding typedOf outcome tyOf
-  arm-bool k g = record { of = λ x n w. rw (bool-type env (fields-are d s at e z q x n w) k, g .of x n w) }
+  arm-bool k o = record { of = λ x n w. let y = bool-type env (fields-are d s at e z q x n w) k o in rw (y .0, y .1) }
 
-  pub arm-path : (r : Typed) {next : ℕ} → t .case ≡ 2 → Ends (readExpr d s at) next → Resolves env s (c .at) next r → Types env d s at r
-  arm-path r k g h = record { of = λ x n w. subst (λ (i : ℕ). typedOf s r ≡ outcome i (typeExpr env x)) (g .of x n w) (path-type env r _ (fields-are d s at e z q x n w) k h) }
+  pub arm-path : (r : Typed) {next : ℕ} → t .case ≡ 2 → Ends (readPath s (c .at)) next → Resolves env s (c .at) next r → Types env d s at r
+  arm-path r k g h = record { of = λ x n w. path-type env r _ (fields-are d s at e z q x n w) k g h }
 
   pub arm-unary : (r : Typed) → t .case ≡ 3 → TypesUnary env (d - 1) s (c .at) r → Types env d s at r
   arm-unary r k h = record { of = λ x n w. unary-type env r (fields-are d s at e z q x n w) k h }

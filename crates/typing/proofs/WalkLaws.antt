@@ -15,7 +15,6 @@ use Rattle.reading.specs.Text.{Name}
 use Rattle.reading.specs.Decl.{FieldDecl, readFieldDecl}
 use Rattle.reading.specs.Pattern.{PatternField, readPatternField}
 use Rattle.reading.proofs.Rules.{no}
-use Rattle.reading.proofs.DeclLaws.{field-decl-laws}
 use Rattle.reading.proofs.PatternLaws.{pattern-field-laws}
 use Rattle.typing.specs.Causes as causes
 use Rattle.typing.specs.Causes.{field, blame}
@@ -26,14 +25,16 @@ use Rattle.typing.specs.Means.{blameOf}
 use Rattle.typing.specs.Table.{afterItem, Past}
 use Rattle.typing.specs.Blames.{Bound, none-bound, more-bound, Binds, Spares}
 use Rattle.typing.specs.Entries.{Entered}
-use Rattle.typing.specs.Fields.{fieldNamed, namedFrom, Passed, noMore, JudgesField, JudgesFields}
+use Rattle.typing.specs.Fields.{PartsAt, fieldNamed, namedFrom, Passed, noMore, JudgesField, JudgesFields}
 use Rattle.typing.specs.declared.cause.Cause.{Cause}
 use Rattle.typing.specs.declared.cause.Within.{Within}
 use Rattle.typing.specs.declared.cause.Blame.{Blame}
 use Rattle.typing.specs.declared.cause.Blame.the-variants.{Nothing, Found}
 use Rattle.typing.specs.declared.cause.Bindings.{Bindings}
+use Rattle.typing.specs.declared.field.Parts.{Parts}
 use Rattle.typing.proofs.EnvLaws.{after-is}
 use Rattle.typing.proofs.EntryLaws.{Next, none-left, next, entered-at}
+use Rattle.typing.proofs.PartLaws.{field-text, field-type, field-ends, name-stands, pattern-stands, pattern-ends}
 use Rattle.typing.proofs.FieldLaws.{nameIs, field-named-is}
 
 -- the place after so many items
@@ -151,6 +152,7 @@ pub record Left (s : List ℕ) (at k : ℕ) (table : List ℕ) (whole : Judged) 
   pub made : Judged
   pub given : Entered readPatternField s left p fields
   pub declared : Entered readFieldDecl s left f decls
+  pub place : p ≡ stepped s at i
   pub passed : Passed s at i seen
   pub so-far : Binds s table k made (record { blame = Nothing; words = j }) now
   pub same : joined made (judgeFields seen decls fields) ≡ whole
@@ -168,7 +170,6 @@ pub record Walking (s : List ℕ) (at at′ count k : ℕ) (table : List ℕ) (i
   pub upto : i ≤ count
   pub room : j ≤ 2 * i
   pub kept : take k now ≡ take k table
-  pub place : p ≡ stepped s at i
   pub of : (xs : List PatternField) (fs : List FieldDecl) → Entered readPatternField s count at xs → Entered readFieldDecl s count at′ fs → Left s at k table (judgeFields [] fs xs) (count - i) i p f j now
 
 module _ (s : List ℕ) (at at′ count k : ℕ) (table : List ℕ) where
@@ -180,7 +181,6 @@ module _ (s : List ℕ) (at at′ count k : ℕ) (table : List ℕ) where
     upto = omega arith;
     room = omega arith;
     kept = refl;
-    place = refl;
     of = λ xs fs q r. record {
       fields = xs;
       decls = fs;
@@ -188,6 +188,7 @@ module _ (s : List ℕ) (at at′ count k : ℕ) (table : List ℕ) where
       made = judged none;
       given = rw z q;
       declared = rw z r;
+      place = refl;
       passed = passed-none s at;
       so-far = record { fault = refl; pairs = []; are = none-bound; many = refl; words = refl };
       same = refl;
@@ -209,7 +210,7 @@ module _ (s : List ℕ) (at at′ count k : ℕ) (table : List ℕ) where
     pub done-spares : Spares table k (record { blame = Nothing; words = j }) now
     done-spares = record { few = omega (arith, g .few, g .upto, g .room); kept = g .kept }
 
-    module _ (h : i < count) {r : Bindings} {now′ : List ℕ} (o : JudgesField s p f at i now (k + j) r now′) where
+    module _ (h : i < count) {own decl : Parts} {r : Bindings} {now′ : List ℕ} (a : PartsAt s p own) (b : PartsAt s f decl) (o : JudgesField s own decl at i now (k + j) r now′) where
       turn : {whole : Judged} (l : Left s at k table whole (count - i) i p f j now) → Turn s at k table whole (count - i) i p f j now r now′ l
       unfolding judgeFields
       turn l =
@@ -218,7 +219,12 @@ module _ (s : List ℕ) (at at′ count k : ℕ) (table : List ℕ) where
           record {
             field = x;
             decl = d;
-            own = o .of (x .head) (x .end) (d .head) (d .end) (l .seen) (x .here) (d .here) (l .passed);
+            own =
+                let m = name-stands s p (x .head) (x .end) (x .here) (a .name) in
+                o .of (x .head) (m .0) (x .end) (d .head) (d .end) (l .seen) (m .1)
+                (pattern-stands s p (x .head) (x .end) (x .here) (a .under))
+                (field-text s f (d .head) (d .end) (d .here) (b .name))
+                (field-type s f (d .head) (d .end) (d .here) (b .under)) (l .passed);
             same = (λ i. joined (l .made) (judgeFields (l .seen) (sym (d .split) i) (sym (x .split) i))) ∙ l .same;
           }
 
@@ -240,7 +246,7 @@ module _ (s : List ℕ) (at at′ count k : ℕ) (table : List ℕ) where
             subst (λ (z : Judged). Binds s table k z (record { blame = r .blame; words = j + r .words }) now′) (ap (joined (l .made)) (sym e) ∙ t .same) (binds-join (l .so-far) (t .own));
       }
 
-      pub fields-more : {p′ f′ : ℕ} → r .blame ≡ Nothing → length now′ ≡ length now → Past s p p′ → Past s f f′ → Walking s at at′ count k table (i + 1) p′ f′ (j + r .words) now′
+      pub fields-more : {p′ f′ : ℕ} → r .blame ≡ Nothing → length now′ ≡ length now → Past s (own .under) p′ → Past s (decl .under) f′ → Walking s at at′ count k table (i + 1) p′ f′ (j + r .words) now′
       unfolding stepped blameOf
       fields-more y z past past′ = record {
         size = z ∙ g .size;
@@ -248,23 +254,24 @@ module _ (s : List ℕ) (at at′ count k : ℕ) (table : List ℕ) where
         upto = omega arith;
         room = let q = g .room in let t = o .few in omega arith;
         kept = turn-keeps;
-        place = past .is ∙ ap (afterItem s) (g .place) ∙ ap (stepped s at) (sym (add-one i));
         of = λ xs fs q u.
             let l = g .of xs fs q u in
             let t = turn l in
-            let own = judgeField noMore (l .seen) (t .decl .head) (t .field .head) (t .field .head .name) in
+            let made = judgeField noMore (l .seen) (t .decl .head) (t .field .head) (t .field .head .name) in
             let rest = judgeFields (grown (l .seen) (t .field .head .name)) (t .decl .tail) (t .field .tail) in
             let e = own-goes (λ names. judgeFields names (t .decl .tail) (t .field .tail)) (l .seen) (t .decl .head) (t .field .head) (t .field .head .name) (sym (t .own .fault) ∙ ap (blameOf s) y) in
             let w : count - i - 1 ≡ count - (i + 1) = omega arith in
+            let end = pattern-ends s p (t .field .head) (t .field .end) (t .field .here) (a .under) past in
             record {
               fields = t .field .tail;
               decls = t .decl .tail;
               seen = grown (l .seen) (t .field .head .name);
-              made = joined (l .made) own;
-              given = rw (sym w) (entered-at (past .is ∙ after-is pattern-field-laws s (past .each) p (t .field .head) (t .field .end) (t .field .here)) (t .field .rest));
-              declared = rw (sym w) (entered-at (past′ .is ∙ after-is field-decl-laws s (past′ .each) f (t .decl .head) (t .decl .end) (t .decl .here)) (t .decl .rest));
-              passed = passed-more s at i p (l .seen) (t .field .head) (t .field .end) (g .place) (t .field .here) (l .passed);
-              so-far = subst (λ (b : Blame). Binds s table k (joined (l .made) own) (record { blame = b; words = j + r .words }) now′) y (binds-join (l .so-far) (t .own));
-              same = joined-joined (l .made) own rest ∙ ap (joined (l .made)) (sym e) ∙ t .same;
+              made = joined (l .made) made;
+              given = rw (sym w) (entered-at end (t .field .rest));
+              declared = rw (sym w) (entered-at (field-ends s f (t .decl .head) (t .decl .end) (t .decl .here) (b .under) past′) (t .decl .rest));
+              place = end ∙ sym (after-is pattern-field-laws s (past .each) p (t .field .head) (t .field .end) (t .field .here)) ∙ ap (afterItem s) (l .place) ∙ ap (stepped s at) (sym (add-one i));
+              passed = passed-more s at i p (l .seen) (t .field .head) (t .field .end) (l .place) (t .field .here) (l .passed);
+              so-far = subst (λ (b : Blame). Binds s table k (joined (l .made) made) (record { blame = b; words = j + r .words }) now′) y (binds-join (l .so-far) (t .own));
+              same = joined-joined (l .made) made rest ∙ ap (joined (l .made)) (sym e) ∙ t .same;
             };
       }

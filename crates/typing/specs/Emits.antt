@@ -8,25 +8,25 @@ use Rattle.reading.specs.Limits.{maxList}
 use Rattle.reading.specs.Text.{Name, readName}
 use Rattle.reading.specs.Expr.{Expr}
 use Rattle.reading.specs.Combine.{listOf, optional}
-use Rattle.reading.specs.Decl.{FieldDecl, ConstructorVariant, ConstructorGroup, readFieldDecl, readConstructorVariant, readConstructorGroup}
+use Rattle.reading.specs.Decl.{Ty, FieldDecl, ConstructorVariant, ConstructorGroup, readTy, readFieldDecl, readConstructorVariant, readConstructorGroup}
 use Rattle.reading.specs.Transition.{OutputExpr, readTopExpr}
 use Rattle.reading.specs.Skip.{textAt}
 use Rattle.typing.specs.Types.{typeToExprType}
-use Rattle.typing.specs.Causes.{blame, arg}
+use Rattle.typing.specs.Causes.{Answer, blame, arg}
 use Rattle.typing.specs.Names.{firstCalled}
 use Rattle.typing.specs.Env.{Env}
-use Rattle.typing.specs.Typing.{typeExpr}
 use Rattle.typing.specs.Patterns.{declaredName}
 use Rattle.typing.specs.Outputs.{argCause, judgeArgs, variantName, judgeOutputVariant, judgeOutput}
-use Rattle.typing.specs.Means.{blameOf}
+use Rattle.typing.specs.Means.{typedOf, outcome, blameOf}
 use Rattle.typing.specs.Accepts.{nameFound}
 use Rattle.typing.specs.Entries.{Entered}
+use Rattle.typing.specs.declared.cause.Typed.{Typed}
 use Rattle.typing.specs.declared.cause.Blame.{Blame}
 use Rattle.typing.specs.declared.table.Found.{Found}
 
--- an argument with its field, and so many of them
-pub record JudgesArg (env : Env) (s : List ℕ) (at field : ℕ) (r : Blame) : Type 0 where
-  pub of : (e : Expr) (n : ℕ) (f : FieldDecl) (m : ℕ) → readTopExpr s at ≡ ok e n → readFieldDecl s field ≡ ok f m → blameOf s r ≡ blame (arg (f .name)) (argCause (typeExpr env e) (typeToExprType (f .ty)))
+-- an argument that was typed, with its field's name and type; and so many arguments with their fields
+pub record JudgesArg (s : List ℕ) (t : Typed) (name ty : ℕ) (r : Blame) : Type 0 where
+  pub of : (a : Answer) (n : ℕ) (u : Ty) (m : ℕ) → typedOf s t ≡ outcome n a → readTy s ty ≡ ok u m → blameOf s r ≡ blame (arg (textAt s name)) (argCause a (typeToExprType u))
 
 pub record JudgesArgs (env : Env) (s : List ℕ) (at fields count : ℕ) (r : Blame) : Type 0 where
   pub of : (es : List Expr) (fs : List FieldDecl) → Entered readTopExpr s count at es → Entered readFieldDecl s count fields fs → blameOf s r ≡ judgeArgs env es fs

@@ -7,21 +7,28 @@ use mathlib.Core.Option.{Option, none, some}
 use lib.ListN.{getD, take}
 use lib.Dec.{eqb}
 use Rattle.reading.specs.Read.{ok, pick}
-use Rattle.reading.specs.Text.{Name}
-use Rattle.reading.specs.Decl.{FieldDecl, readFieldDecl}
-use Rattle.reading.specs.Pattern.{PatternField, readPatternField}
+use Rattle.reading.specs.Text.{Name, readName}
+use Rattle.reading.specs.Decl.{Ty, FieldDecl, readTy, readFieldDecl}
+use Rattle.reading.specs.Pattern.{PatternExpr, PatternField, readPatternExpr, readPatternField}
 use Rattle.reading.specs.Skip.{textAt}
+use Rattle.reading.specs.Views.{OptionAt}
 use Rattle.typing.specs.Causes.{blame, field}
 use Rattle.typing.specs.Names.{eqName, member}
 use Rattle.typing.specs.Patterns.{patternExprCompatible, Judged, judged, judgeField, judgeFields}
 use Rattle.typing.specs.Means.{blameOf}
-use Rattle.typing.specs.Table.{afterItem, afterHead}
+use Rattle.typing.specs.Table.{afterItem, afterHead, Past}
 use Rattle.typing.specs.Entries.{Entered}
 use Rattle.typing.specs.Blames.{Binds}
 use Rattle.typing.specs.declared.cause.Blame.{Blame}
 use Rattle.typing.specs.declared.cause.Bindings.{Bindings}
+use Rattle.typing.specs.declared.field.Parts.{Parts}
 use Rattle.typing.specs.declared.field.Naming.{Naming}
 use Rattle.typing.specs.declared.field.Naming.the-variants.{Unnamed, Again, Fresh}
+
+-- where the fields of the record at a place stand
+pub record PartsAt (s : List ℕ) (at : ℕ) (r : Parts) : Type 0 where
+  pub name : r .name ≡ afterHead s at
+  pub under : Past s (afterHead s at) (r .under)
 
 -- whether the pattern's field at a place has the name, and whether one of so many from a place on has
 unfoldable pub fieldNamed : List ℕ → ℕ → Name → Bool
@@ -51,21 +58,21 @@ namedOf s (Again at) = again (textAt s at)
 namedOf s (Fresh at) = fresh (textAt s at)
 
 pub record NamesField (s : List ℕ) (at first i : ℕ) (r : Naming) : Type 0 where
-  pub of : (x : PatternField) (n : ℕ) (seen : List Name) → readPatternField s at ≡ ok x n → Passed s first i seen → namedOf s r ≡ nameIn seen (x .name)
+  pub of : (o : Option Name) (n : ℕ) (seen : List Name) → OptionAt readName s at o n → Passed s first i seen → namedOf s r ≡ nameIn seen o
 
--- the field at a place, of the declared field at another: its pattern
-pub record FitsField (s : List ℕ) (at decl : ℕ) (r : Blame) : Type 0 where
-  pub of : (x : PatternField) (n : ℕ) (f : FieldDecl) (m : ℕ) → readPatternField s at ≡ ok x n → readFieldDecl s decl ≡ ok f m → blameOf s r ≡ blame (field (f .name)) (patternExprCompatible (x .pattern) (f .ty))
+-- the pattern at a place, of the declared field by its parts
+pub record FitsField (s : List ℕ) (at : ℕ) (decl : Parts) (r : Blame) : Type 0 where
+  pub of : (p : PatternExpr) (n : ℕ) (t : Ty) (m : ℕ) → readPatternExpr s at ≡ ok p n → readTy s (decl .under) ≡ ok t m → blameOf s r ≡ blame (field (textAt s (decl .name))) (patternExprCompatible p t)
 
 -- no field follows
 abbrev pub noMore : List Name → Judged
 noMore names = judged none
 
 -- the field alone, by the fields before it; its bindings from word w on
-pub record JudgesField (s : List ℕ) (at decl first i : ℕ) (table : List ℕ) (w : ℕ) (r : Bindings) (table′ : List ℕ) : Type 0 where
+pub record JudgesField (s : List ℕ) (own decl : Parts) (first i : ℕ) (table : List ℕ) (w : ℕ) (r : Bindings) (table′ : List ℕ) : Type 0 where
   pub few : r .words ≤ 2
   pub kept : take w table′ ≡ take w table
-  pub of : (x : PatternField) (n : ℕ) (f : FieldDecl) (m : ℕ) (seen : List Name) → readPatternField s at ≡ ok x n → readFieldDecl s decl ≡ ok f m → Passed s first i seen → Binds s table w (judgeField noMore seen f x (x .name)) r table′
+  pub of : (x : PatternField) (k n : ℕ) (f : FieldDecl) (m : ℕ) (seen : List Name) → OptionAt readName s (own .name) (x .name) k → readPatternExpr s (own .under) ≡ ok (x .pattern) n → textAt s (decl .name) ≡ f .name → readTy s (decl .under) ≡ ok (f .ty) m → Passed s first i seen → Binds s table w (judgeField noMore seen f x (x .name)) r table′
 
 -- so many fields from a place on, and as many declared ones from another
 pub record JudgesFields (s : List ℕ) (at decls count : ℕ) (table : List ℕ) (k : ℕ) (r : Bindings) (table′ : List ℕ) : Type 0 where

@@ -7,7 +7,8 @@ use Rattle.reading.specs.Read.{Reader, ok}
 use Rattle.reading.specs.Limits.{maxList}
 use Rattle.reading.specs.Text.{Name}
 use Rattle.reading.specs.Combine.{listOf}
-use Rattle.reading.specs.Decl.{EnumDecl, ConstructorGroup, readEnumDecl, readConstructorVariant, readConstructorGroup}
+use Rattle.reading.specs.Decl.{EnumDecl, ConstructorVariant, ConstructorGroup, readEnumDecl, readConstructorVariant, readConstructorGroup}
+use Rattle.reading.specs.Views.{ConstructorVariantAt}
 use Rattle.typing.specs.Names.{firstCalled}
 use Rattle.typing.specs.Patterns.{declaredName}
 use Rattle.typing.specs.declared.table.Found.{Found}
@@ -36,3 +37,7 @@ FirstEnum = First readEnumDecl enumName
 
 abbrev pub FirstVariant : List ℕ → ℕ → Name → Found → Type 0
 FirstVariant = First readConstructorVariant declaredName
+
+-- r is the place after the declared variant of a case whose name stands at a place
+pub record PastVariant (s : List ℕ) (name case r : ℕ) : Type 0 where
+  pub of : (x : ConstructorVariant) (n : ℕ) → ConstructorVariantAt s name case x n → r ≡ n

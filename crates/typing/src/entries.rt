@@ -1,5 +1,4 @@
 // Lists and data enums that are opened.
-use crate::fill::after_tag;
 use crate::table::after;
 use reading::Answer;
 use reading::Cursor;
@@ -49,9 +48,13 @@ pub(crate) fn fields_at(doc: &[u8], at: usize) -> Entries
     ensures { λ r. ⌜ FieldsAt (now (doc .entry)) at r ⌝ }
     ensures { λ r. ⌜ r .many ≤ 255 ⌝ }
 {
-    if has_case(doc, at, 1) {
-        let name = after_tag(doc, at);
-        return entries_at(doc, after(doc, name));
+    let c = Cursor { at };
+    let t = c.tag(doc);
+    let Tagged::Case(tag, name) = t else {
+        return Entries { many: 0, first: at };
+    };
+    if tag.case == 1 {
+        return entries_at(doc, after(doc, name.at));
     }
     Entries { many: 0, first: at }
 }

@@ -1,10 +1,12 @@
 // The type of an expression: expression, unary and binary typing call each other, and the depth left falls.
 use crate::cause::Cause;
 use crate::cause::Typed;
+use crate::path::after_path;
 use crate::path::resolve_path;
 use crate::rules::binary_type;
 use crate::rules::unary_type;
 use crate::table::after;
+use crate::table::after_any;
 use crate::ty::Ty;
 use reading::Answer;
 use reading::Cursor;
@@ -18,7 +20,7 @@ ghost use Rattle.typing.specs.Typed.{Types, TypesUnary, TypesBinary};
 pub fn after_expr(doc: &[u8], at: usize, depth: u64) -> usize
     ensures { λ r. ⌜ Ends (readExpr depth (now (doc .entry)) at) r ⌝ }
 {
-    after(doc, at)
+    after_any(doc, at)
 }
 
 // The type of the expression at a place, with as many levels left.
@@ -42,9 +44,9 @@ pub fn type_expr<'a>(
     let case = tag.case;
     let k = fields.at;
     match case {
-        0 => Typed::Is(Ty::IntLit, after_expr(doc, at, depth)),
-        1 => Typed::Is(Ty::Bool, after_expr(doc, at, depth)),
-        2 => resolve_path(doc, k, after_expr(doc, at, depth), names, enums),
+        0 => Typed::Is(Ty::IntLit, after(doc, k)),
+        1 => Typed::Is(Ty::Bool, after(doc, k)),
+        2 => resolve_path(doc, k, after_path(doc, k), names, enums),
         3 => type_unary(doc, k, depth - 1, names, enums),
         4 => type_binary(doc, k, depth - 1, names, enums),
         5..=u64::MAX => Typed::Fails(Cause::EmptyPath),

@@ -5,7 +5,6 @@ use crate::cause::Blame;
 use crate::cause::Cause;
 use crate::cause::Within;
 use crate::fill::after_head;
-use crate::fill::second;
 use crate::fill::store;
 use crate::names::same;
 use crate::pattern::pattern_expr_compatible;
@@ -16,13 +15,28 @@ ghost use Prim.Native.Nat.{_+_};
 ghost use mathlib.Core.Path.{_≡_};
 ghost use lib.ListN.{set};
 ghost use Rattle.typing.specs.Blames.{Spares};
-ghost use Rattle.typing.specs.Fields.{fieldNamed, namedFrom, NamesField, FitsField, JudgesField, JudgesFields};
+ghost use Rattle.typing.specs.Fields.{PartsAt, fieldNamed, namedFrom, NamesField, FitsField, JudgesField, JudgesFields};
 
 // The name of a pattern's field, by its place: none, one that an earlier field has, or a new one.
 pub enum Naming {
     Unnamed,
     Again(usize),
     Fresh(usize),
+}
+
+// Where the two fields of a record stand: a name, and what is under it.
+pub struct Parts {
+    pub name: usize,
+    pub under: usize,
+}
+
+// Those of the record at a place.
+fn parts_at(doc: &[u8], at: usize) -> Parts
+    ensures { λ r. ⌜ PartsAt (now (doc .entry)) at r ⌝ }
+{
+    let name = after_head(doc, at);
+    let under = after(doc, name);
+    Parts { name, under }
 }
 
 // Whether the pattern's field at a place has the name.
@@ -52,11 +66,10 @@ fn named_from<'a>(doc: &'a [u8], at: usize, fields: u8, name: &'a [u8]) -> bool
     false
 }
 
-// The name of the field at a place, by the fields before it: so many from the first on.
-fn field_name(doc: &[u8], at: usize, first: usize, passed: u8) -> Naming
-    ensures { λ r. ⌜ NamesField (now (doc .entry)) at first passed r ⌝ }
+// The name of a field that stands at a place, by the fields before it: so many from the first on.
+fn field_name(doc: &[u8], name: usize, first: usize, passed: u8) -> Naming
+    ensures { λ r. ⌜ NamesField (now (doc .entry)) name first passed r ⌝ }
 {
-    let name = after_head(doc, at);
     if null_at(doc, name) {
         return Naming::Unnamed;
     }
@@ -66,15 +79,14 @@ fn field_name(doc: &[u8], at: usize, first: usize, passed: u8) -> Naming
     Naming::Fresh(name)
 }
 
-// What is wrong with the pattern of a field at a place, of the declared field at another, if anything.
-fn field_fits(doc: &[u8], at: usize, field: usize) -> Blame
-    ensures { λ r. ⌜ FitsField (now (doc .entry)) at field r ⌝ }
+// What is wrong with the pattern at a place, of the declared field by its parts, if anything.
+fn field_fits(doc: &[u8], pattern: usize, decl: Parts) -> Blame
+    ensures { λ r. ⌜ FitsField (now (doc .entry)) pattern decl r ⌝ }
 {
-    let name = after_head(doc, field);
-    let fit = pattern_expr_compatible(doc, second(doc, at), second(doc, field));
+    let fit = pattern_expr_compatible(doc, pattern, decl.under);
     match fit {
         Fit::Fine => Blame::Nothing,
-        Fit::Unfit(cause) => Blame::Found(Within::Field(name), cause),
+        Fit::Unfit(cause) => Blame::Found(Within::Field(decl.name), cause),
     }
 }
 
@@ -93,23 +105,23 @@ fn store_pair(table: &mut [usize], k: usize, j: usize, name: usize, ty: usize)
     store(table, w + 1, ty);
 }
 
-// What is wrong with the field at a place, of the declared field at another, by the fields before it; and what it binds, from word k + j on.
+// What is wrong with a field, of the declared field, by the parts of both and the fields before it; and what it binds, from word k + j on.
 fn judge_field(
     doc: &[u8],
-    at: usize,
-    field: usize,
+    own: Parts,
+    decl: Parts,
     first: usize,
     passed: u8,
     table: &mut [usize],
     k: usize,
     j: usize,
 ) -> Bindings
-    ensures { λ r. ⌜ JudgesField (now (doc .entry)) at field first passed (now (table .entry)) (k + j) r (now (table .exit)) ⌝ }
+    ensures { λ r. ⌜ JudgesField (now (doc .entry)) own decl first passed (now (table .entry)) (k + j) r (now (table .exit)) ⌝ }
 {
-    let naming = field_name(doc, at, first, passed);
+    let naming = field_name(doc, own.name, first, passed);
     match naming {
         Naming::Unnamed => Bindings {
-            blame: field_fits(doc, at, field),
+            blame: field_fits(doc, own.under, decl),
             words: 0,
         },
         Naming::Again(name) => Bindings {
@@ -117,9 +129,9 @@ fn judge_field(
             words: 0,
         },
         Naming::Fresh(name) => {
-            store_pair(table, k, j, name, second(doc, field));
+            store_pair(table, k, j, name, decl.under);
             Bindings {
-                blame: field_fits(doc, at, field),
+                blame: field_fits(doc, own.under, decl),
                 words: 2,
             }
         }
@@ -143,14 +155,16 @@ pub(crate) fn judge_fields(
     let mut i: u8 = 0;
     let mut j: usize = 0;
     while i < count {
-        let r = judge_field(doc, p, f, at, i, table, k, j);
+        let own = parts_at(doc, p);
+        let decl = parts_at(doc, f);
+        let r = judge_field(doc, own, decl, at, i, table, k, j);
         j += r.words;
         let blame = r.blame;
         let Blame::Nothing = blame else {
             return Bindings { blame, words: j };
         };
-        p = after(doc, p);
-        f = after(doc, f);
+        p = after(doc, own.under);
+        f = after(doc, decl.under);
         i += 1;
     }
     Bindings {

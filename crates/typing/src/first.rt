@@ -1,12 +1,13 @@
 // The first group, enum or variant of a name.
 use crate::entries::entries_at;
 use crate::fill::after_head;
-use crate::fill::after_tag;
 use crate::names::same;
 use crate::table::Found;
 use crate::table::after;
+use reading::Cursor;
+use reading::Tagged;
 use reading::text_at;
-ghost use Rattle.typing.specs.First.{FirstGroup, FirstEnum, FirstVariant};
+ghost use Rattle.typing.specs.First.{FirstGroup, FirstEnum, FirstVariant, PastVariant};
 
 // In the list of groups or enums at a place: both records begin with their name.
 pub fn first_record<'a>(doc: &'a [u8], at: usize, name: &'a [u8]) -> Found
@@ -21,10 +22,22 @@ pub fn first_record<'a>(doc: &'a [u8], at: usize, name: &'a [u8]) -> Found
         if same(text_at(doc, key), name) {
             return Found::At(k);
         }
-        k = after(doc, k);
+        let under = after(doc, key);
+        k = after(doc, under);
         left -= 1;
     }
     Found::Nothing
+}
+
+// The place after the declared variant of a case whose name stands at a place: a unit has no more.
+fn after_variant(doc: &[u8], name: usize, case: u64) -> usize
+    ensures { λ r. ⌜ PastVariant (now (doc .entry)) name case r ⌝ }
+{
+    let fields = after(doc, name);
+    if case == 0 {
+        return fields;
+    }
+    after(doc, fields)
 }
 
 // In the list of variants at a place: the case number stands before the name.
@@ -35,11 +48,16 @@ pub fn first_variant<'a>(doc: &'a [u8], at: usize, name: &'a [u8]) -> Found
     let mut k = e.first;
     let mut left = e.many;
     while 0 < left {
-        let key = after_tag(doc, k);
+        let c = Cursor { at: k };
+        let t = c.tag(doc);
+        let Tagged::Case(tag, fields) = t else {
+            return Found::Nothing;
+        };
+        let key = fields.at;
         if same(text_at(doc, key), name) {
             return Found::At(k);
         }
-        k = after(doc, k);
+        k = after_variant(doc, key, tag.case);
         left -= 1;
     }
     Found::Nothing

@@ -1,5 +1,5 @@
 // Formulas: what one is made of, and its bounds.
-use crate::table::after;
+use crate::table::after_any;
 use reading::Answer;
 use reading::Cursor;
 use reading::Tagged;
@@ -46,7 +46,7 @@ pub(crate) fn kind_of(case: u64) -> Kind
 pub fn after_formula(doc: &[u8], at: usize, depth: u64) -> usize
     ensures { λ r. ⌜ Ends (readFormula depth (now (doc .entry)) at) r ⌝ }
 {
-    after(doc, at)
+    after_any(doc, at)
 }
 
 // Whether an always[N] with N below 1 stands in the formula at a place, with as many levels left.

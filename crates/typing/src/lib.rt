@@ -26,6 +26,7 @@ mod temporal;
 mod ty;
 mod version;
 
+pub use args::arg_compatible;
 pub use binds::null_at;
 pub use cause::Bindings;
 pub use cause::Blame;
@@ -52,7 +53,6 @@ pub use names::same_name;
 pub use number::blame_number;
 pub use number::cause_number;
 pub use number::fit_number;
-pub use output::arg_compatible;
 pub use output::validate_output_expr;
 pub use path::resolve_path;
 pub use pattern::pattern_expr_compatible;

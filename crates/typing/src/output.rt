@@ -1,45 +1,22 @@
-// What is emitted: an output by the groups of outputs, and an argument against the type that is declared for its field.
+// What is emitted: an output by the groups of outputs.
 use crate::args::judge_args;
 use crate::binds::null_at;
 use crate::cause::Blame;
 use crate::cause::Cause;
-use crate::cause::Typed;
 use crate::cause::Within;
 use crate::entries::entries_at;
 use crate::entries::fields_at;
-use crate::expr::type_expr;
 use crate::fill::after_head;
 use crate::fill::after_tag;
 use crate::fill::second;
 use crate::first::first_record;
 use crate::first::first_variant;
-use crate::rules::Fit;
-use crate::rules::compatible_with;
 use crate::table::Found;
 use crate::table::after;
-use crate::table::ty_at;
 use reading::text_at;
 ghost use Rattle.typing.specs.Table.{envAt};
-ghost use Rattle.typing.specs.Arguments.{AcceptsArg};
 ghost use Rattle.typing.specs.Emits.{OnlyVariant, NamesVariant, JudgesVariant, JudgesName, JudgesGroup};
 ghost use Rattle.typing.specs.Blames.{JudgesOutput};
-
-// The argument at a place, of a field whose type stands at another: what is wrong with it, if anything.
-pub fn arg_compatible<'a>(
-    doc: &'a [u8],
-    at: usize,
-    ty: usize,
-    names: &'a [usize],
-    enums: &'a [usize],
-) -> Fit
-    ensures { λ r. ⌜ AcceptsArg (envAt (now (doc .entry)) (now (names .entry)) (now (enums .entry))) (now (doc .entry)) at ty r ⌝ }
-{
-    let t = type_expr(doc, at, 32, names, enums);
-    match t {
-        Typed::Is(given, _) => compatible_with(doc, given, ty_at(doc, ty)),
-        Typed::Fails(cause) => Fit::Unfit(cause),
-    }
-}
 
 // The place of the name of the only one in the list of variants at a place.
 pub(crate) fn only_variant(doc: &[u8], at: usize) -> Found

@@ -4,6 +4,7 @@ use crate::cause::Typed;
 use crate::names::is_word;
 use crate::table::Found;
 use crate::table::after;
+use crate::table::after_any;
 use crate::table::find;
 use crate::table::has_name;
 use crate::table::ty_at;
@@ -13,10 +14,12 @@ use reading::Cursor;
 use reading::text_at;
 ghost use mathlib.Core.Path.{_≡_};
 ghost use mathlib.Core.List.{[]};
+ghost use Rattle.reading.specs.Expr.{readPath};
 ghost use Rattle.reading.specs.Skip.{textAt};
 ghost use Rattle.typing.specs.Env.{stateVariants};
 ghost use Rattle.typing.specs.Typing.{resolveState, resolveName, resolveVariant};
 ghost use Rattle.typing.specs.Means.{typedOf, outcome};
+ghost use Rattle.typing.specs.Tells.{Ends};
 ghost use Rattle.typing.specs.Typed.{Resolves};
 ghost use Rattle.typing.specs.Table.{afterItem, envAt};
 
@@ -83,6 +86,18 @@ pub(crate) fn resolve_variant<'a>(
         return Typed::Is(Ty::Enum(at), next);
     }
     Typed::Fails(Cause::UnknownVariant(variant, at))
+}
+
+// The place after the path at a place: one of one name ends where the name does.
+pub(crate) fn after_path(doc: &[u8], at: usize) -> usize
+    ensures { λ r. ⌜ Ends (readPath (now (doc .entry)) at) r ⌝ }
+{
+    if at < doc.len() {
+        if doc[at] == 129 {
+            return after(doc, at + 1);
+        }
+    }
+    after_any(doc, at)
 }
 
 // The type of the path at a place; `next` is the place after its expression.

@@ -19,8 +19,8 @@ pub enum Found {
     Nothing,
 }
 
-// The place after the item at a place.
-pub fn after(doc: &[u8], at: usize) -> usize
+// The place after the item at a place, by the heads in it.
+pub(crate) fn after_any(doc: &[u8], at: usize) -> usize
     ensures { λ r. ⌜ Past (now (doc .entry)) at r ⌝ }
 {
     let c = Cursor { at };
@@ -29,6 +29,35 @@ pub fn after(doc: &[u8], at: usize) -> usize
         Step::To(next) => next.at,
         Step::Refused(_, place) => place,
     }
+}
+
+// The place after the item at a place: short ones, a number, an empty list, a simple value and a name, by their first byte.
+pub fn after(doc: &[u8], at: usize) -> usize
+    ensures { λ r. ⌜ Past (now (doc .entry)) at r ⌝ }
+{
+    if at < doc.len() {
+        let b = doc[at];
+        if b < 24 {
+            return at + 1;
+        }
+        if b == 128 {
+            return at + 1;
+        }
+        if 243 < b {
+            if b < 247 {
+                return at + 1;
+            }
+        }
+        if 96 < b {
+            if b < 120 {
+                let n = (b - 96) as usize;
+                if n < doc.len() - at {
+                    return at + 1 + n;
+                }
+            }
+        }
+    }
+    after_any(doc, at)
 }
 
 // What stands under a name in a table: the last.

@@ -1,5 +1,5 @@
 -- What is left of both lists decides.
-use Rattle.typing.proofs.EmitLaws.{Judging, args-start, args-hit, args-miss, args-done}
+use Rattle.typing.proofs.EmitLaws.{Judging, args-start, args-hit, args-untyped, args-miss, args-done}
 use native.Mathlib.Omega.{arith}
 use borrow.Author.Needs.{needs}
 use Rattle.typing.specs.Table.{envAt}
@@ -20,10 +20,15 @@ judge-args-spec =
     μ-loop
     (λ c. search args-start)
     (λ c κs. search needs)
+    (λ c κs. search needs)
+    (λ c κs. search needs)
+    (λ c κs. search needs)
     (λ c. search needs)
     (λ c. search needs)
     (λ c. search args-hit)
-    (λ c κs. search needs)
+    (λ c. search needs)
+    (λ c. search needs)
+    (λ c. search args-untyped)
     (λ c κs. search needs)
     (λ c. omega arith)
     (λ c. omega arith)

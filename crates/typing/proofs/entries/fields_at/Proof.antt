@@ -1,7 +1,7 @@
--- By whether it has fields.
+-- By the case.
 use native.Mathlib.Omega.{arith}
 use borrow.Author.Needs.{needs}
-use Rattle.typing.proofs.EntryLaws.{fields-unit, fields-struct}
+use Rattle.typing.proofs.EntryLaws.{fields-none, fields-other, fields-one}
 use Rattle.typing.proofs.entries.fields_at.Statement.{statement}
 use Rattle.typing.proofs.entries.fields_at.Tie as tie
 
@@ -10,8 +10,10 @@ fields-at-spec =
     tie.close
     (tie.spec
     (λ c κs. search needs)
+    (λ c. search needs)
+    (λ c. search needs)
+    (λ c. (search fields-none, omega arith))
     (λ c κs. search needs)
     (λ c κs. search needs)
-    (λ c κs. search needs)
-    (λ c. (search fields-struct, search needs))
-    (λ c. (search fields-unit, omega arith)))
+    (λ c. (search fields-one, search needs))
+    (λ c. (search fields-other, omega arith)))

@@ -13,7 +13,8 @@ use Rattle.typing.proofs.expr.type_unary.Kinds as type-unary-kinds
 use Rattle.typing.proofs.expr.+type_binary+type_expr+type_unary.Lts-type_unary as type-unary-lts
 use Rattle.reading.proofs.cursor.Cursor.case_number.Reads as case-number-reads
 use Rattle.reading.proofs.cursor.Cursor.tag.Reads as tag-reads
-use Rattle.typing.proofs.expr.after_expr.Reads as after-expr-reads
+use Rattle.typing.proofs.table.after.Reads as after-reads
+use Rattle.typing.proofs.path.after_path.Reads as after-path-reads
 use Rattle.typing.proofs.path.resolve_path.Reads as resolve-path-reads
 use Rattle.typing.proofs.rules.binary_type.Reads as binary-type-reads
 use Rattle.typing.proofs.rules.unary_type.Reads as unary-type-reads
@@ -42,7 +43,7 @@ pub +type-binary+type-expr+type-unary-spec : {M : Type 1} → statement M
     (λ c. search right-out)
     (λ c κs. search needs)
     (λ c. search binary-goes))
-    (λ t. type-expr-lts.spec (tag-reads.Asked, tag-reads.Learnt, after-expr-reads.Asked, after-expr-reads.Learnt, resolve-path-reads.Asked, resolve-path-reads.Learnt, below type-unary-kinds.ps μ-type-unary type-unary.Pre t, type-unary.Post, below type-binary-kinds.ps μ-type-binary type-binary.Pre t, type-binary.Post) (meets type-expr-kinds.ps μ-type-expr type-expr.Pre t) type-expr.Post
+    (λ t. type-expr-lts.spec (tag-reads.Asked, tag-reads.Learnt, after-reads.Asked, after-reads.Learnt, after-path-reads.Asked, after-path-reads.Learnt, resolve-path-reads.Asked, resolve-path-reads.Learnt, below type-unary-kinds.ps μ-type-unary type-unary.Pre t, type-unary.Post, below type-binary-kinds.ps μ-type-binary type-binary.Pre t, type-binary.Post) (meets type-expr-kinds.ps μ-type-expr type-expr.Pre t) type-expr.Post
     (λ c. search too-deep)
     (λ c κs. search needs) (λ c. search needs) (λ c. search needs)
     (λ c. search no-tag)

@@ -9,7 +9,6 @@ field-name-spec =
     tie.close
     (tie.spec
     (λ c κs. search needs)
-    (λ c κs. search needs)
     (λ c. search name-absent)
     (λ c κs. search needs)
     (λ c κs. search needs)

@@ -15,7 +15,6 @@ judge-field-spec =
     (λ c. search needs)
     (λ c κs. search needs)
     (λ c κs. search needs)
-    (λ c κs. search needs)
     (λ c. search judge-unnamed)
     (λ c. search judge-again)
     (λ c. search needs)

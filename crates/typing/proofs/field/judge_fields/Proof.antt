@@ -20,6 +20,8 @@ judge-fields-spec =
     μ-loop
     (λ c. fields-start _ _ _ _ _ _ (omega arith))
     (λ c κs. search needs)
+    (λ c κs. search needs)
+    (λ c κs. search needs)
     (λ c. omega arith)
     (λ c. search needs)
     (λ c. search needs)

@@ -27,6 +27,7 @@ first-record-spec =
     (λ c κs. search needs)
     (λ c. (search group-hit, search enum-hit))
     (λ c κs. search needs)
+    (λ c κs. search needs)
     (λ c. omega arith)
     (λ c. omega arith)
     (λ c. (search group-miss, search enum-miss))

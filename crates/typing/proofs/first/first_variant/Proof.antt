@@ -4,7 +4,7 @@ use borrow.Author.Needs.{needs}
 use Rattle.reading.specs.Decl.{readConstructorVariant}
 use Rattle.typing.specs.Patterns.{declaredName}
 use Rattle.typing.proofs.EntryLaws.{scan-start}
-use Rattle.typing.proofs.FirstLaws.{Seeking, first-done, variant-hit, variant-miss}
+use Rattle.typing.proofs.FirstLaws.{Seeking, first-done, variant-none, variant-hit, variant-miss}
 use Rattle.typing.proofs.first.first_variant.Statement.{statement}
 use Rattle.typing.proofs.first.first_variant.Tie as tie
 
@@ -23,6 +23,9 @@ first-variant-spec =
     (λ c κs. search needs)
     (λ c. scan-start _ _ _ _ _)
     (λ c κs. search needs)
+    (λ c. search needs)
+    (λ c. search needs)
+    (λ c. search variant-none)
     (λ c κs. search needs)
     (λ c κs. search needs)
     (λ c. search variant-hit)

@@ -1,6 +1,5 @@
--- By where the skip ends.
-use Rattle.typing.proofs.TableLaws.{after-to, after-out}
-use native.Mathlib.Omega.{arith}
+-- By the first byte.
+use Rattle.typing.proofs.ShortLaws.{past-number, past-empty, past-simple, past-name}
 use borrow.Author.Needs.{needs}
 use Rattle.typing.proofs.table.after.Statement.{statement}
 use Rattle.typing.proofs.table.after.Tie as tie
@@ -9,8 +8,18 @@ pub after-spec : {M : Type 1} → statement M
 after-spec =
     tie.close
     (tie.spec
+    (λ c. search needs)
+    (λ c. search needs)
+    (λ c. search past-number)
+    (λ c. search needs)
+    (λ c. search past-empty)
+    (λ c. search needs)
+    (λ c. search past-simple)
+    (λ c. search needs)
+    (λ c. search needs)
+    (λ c. search needs)
+    (λ c. search needs)
+    (λ c. search needs)
+    (λ c. search past-name)
     (λ c κs. search needs)
-    (λ c. search needs)
-    (λ c. search needs)
-    (λ c. record { is = search after-to; each = λ i. omega (arith, c .before .before .before .before .shared-slice-known .given i) })
-    (λ c. record { is = search after-out; each = λ i. omega (arith, c .before .before .before .before .shared-slice-known .given i) }))
+    (λ c. search needs))
