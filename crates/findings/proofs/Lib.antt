@@ -45,6 +45,10 @@ pub mod PlaceLaws
 pub mod PrintLaws
 pub mod PairTests
 pub mod PriorityLaws
+pub mod KindLaws
+pub mod ClassLaws
+pub mod FirstLaws
+pub mod VariantLaws
 pub mod ClashLaws
 pub mod RivalLaws
 pub mod OrderLaws

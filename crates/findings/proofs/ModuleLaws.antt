@@ -19,7 +19,7 @@ use Rattle.findings.specs.Mentions.{states}
 use Rattle.findings.specs.Errors.{isEmpty, opening, claims, closing, errors}
 use Rattle.findings.specs.Warnings.{warnings}
 use Rattle.findings.specs.Scene.{Opens}
-use Rattle.findings.specs.Promises.{ClaimsSet, FirstStates, NotesOpening, NotesTransitions, NotesOnError, NotesRepeats, NotesFormulas}
+use Rattle.findings.specs.Promises.{ClaimsSet, FirstStates, NotesOpening, NotesMoves, NotesOnError, NotesRepeats, NotesFormulas}
 use Rattle.findings.specs.PairPromises.{Printed, pairNotes, NotesPairs}
 use Rattle.findings.specs.WarningPromises.{NotesUnreachable, NotesDead, NotesUnused, NotesImpossible}
 use Rattle.findings.specs.Walks.{WalksNamed, WalksModule}
@@ -71,19 +71,19 @@ unfolding isEmpty
 moves-is [] e q = q ∙ ap (ltb 0) e
 moves-is (x ∷ xs) e q = q ∙ ap (ltb 0) e ∙ lt-ltb 0 (suc (length xs)) (omega arith)
 
-pub fore-noted : (s : List ℕ) (owner : ℕ) {o o₁ o′ : List ℕ} {skip n a r : ℕ} {places rows : List ℕ} {found : Found} {count : ℕ} {moves : Bool} (table : List ℕ) {k : ℕ} (vars : ℕ) {enums : List ℕ} → k ≡ 2 * vars → moves ≡ ltb 0 count → NotesOpening s owner o skip n a o₁ places found moves (take (k - 0) table) enums → NotesTransitions s owner o₁ skip a r o′ places rows count found table (2 * vars) enums → NotesFore s owner o skip n r o′ places found rows count (take (2 * vars) table) enums
+pub fore-noted : (s : List ℕ) (owner : ℕ) {o o₁ o′ : List ℕ} {skip n a r : ℕ} {places rows prints : List ℕ} {found : Found} {count : ℕ} {moves : Bool} (table : List ℕ) {k : ℕ} (vars : ℕ) {enums : List ℕ} → k ≡ 2 * vars → moves ≡ ltb 0 count → NotesOpening s owner o skip n a o₁ places found moves (take (k - 0) table) enums → NotesMoves s owner o₁ skip a r o′ places rows prints count found table (2 * vars) enums → NotesFore s owner o skip n r o′ places found rows prints count (take (2 * vars) table) enums
 fore-noted s owner table {k} vars d v x y = record {
-  of = λ m g rs e h f.
+  of = λ m g rs ps e h f.
       let l : k - 0 ≡ 2 * vars = omega arith in
-      note-then owner (note-as owner _ (ap (opening m) (moves-is (m .transitions) e v)) (x .of m g h (rw l f))) (y .of m g rs e h f);
+      note-then owner (note-as owner _ (ap (opening m) (moves-is (m .transitions) e v)) (x .of m g h (rw l f))) (y .of m g rs ps e h f);
 }
 
 pub aft-noted : (s : List ℕ) (owner : ℕ) {o o′ : List ℕ} {skip n r : ℕ} {places : List ℕ} {found : Found} (table : List ℕ) {k : ℕ} (vars : ℕ) {enums properties : List ℕ} → k ≡ 2 * vars → NotesClosing s owner o skip n r o′ places found (take (k - 0) table) enums properties → NotesClosing s owner o skip n r o′ places found (take (2 * vars) table) enums properties
 aft-noted s owner table {k} vars d x = let l : k - 0 ≡ 2 * vars = omega arith in rw l at x
 
-pub most-noted : (s : List ℕ) (owner : ℕ) {o o₁ o′ : List ℕ} {skip n a r : ℕ} {places rows prints : List ℕ} {found : Found} {count : ℕ} {names enums : List ℕ} → NotesFore s owner o skip n a o₁ places found rows count names enums → NotesPairs s owner o₁ skip a r o′ rows prints count false → NotesMost s owner o skip n r o′ places found rows prints count names enums
+pub most-noted : (s : List ℕ) (owner : ℕ) {o o₁ o′ : List ℕ} {skip n a r : ℕ} {places rows prints : List ℕ} {found : Found} {count : ℕ} {names enums : List ℕ} → NotesFore s owner o skip n a o₁ places found rows prints count names enums → NotesPairs s owner o₁ skip a r o′ rows prints count false → NotesMost s owner o skip n r o′ places found rows prints count names enums
 unfolding pairNotes
-most-noted s owner x z = record { of = λ m g rs ps e h f. note-then owner (x .of m g rs e h f) (z .of (m .transitions) rs ps e) }
+most-noted s owner x z = record { of = λ m g rs ps e h f. note-then owner (x .of m g rs ps e h f) (z .of (m .transitions) rs ps e) }
 
 pub errors-noted : (s : List ℕ) (owner : ℕ) {o o₁ o′ : List ℕ} {skip n a r : ℕ} {places rows prints : List ℕ} {found : Found} {count : ℕ} (table table′ : List ℕ) (vars : ℕ) {enums properties : List ℕ} → NotesMost s owner o skip n a o₁ places found rows prints count (take (2 * vars) table) enums → take (2 * vars) table′ ≡ take (2 * vars) table → NotesClosing s owner o₁ skip a r o′ places found (take (2 * vars) table′) enums properties → NotesErrors s owner o skip n r o′ places found rows prints count (take (2 * vars) table) enums properties
 unfolding errors

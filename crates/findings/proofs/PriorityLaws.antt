@@ -1,6 +1,6 @@
 -- Priorities: null is none, and anything else is a number.
 use Prim.Native.Nat.{ℕ, _+_, _*_, _%_}
-use mathlib.Core.Path.{_≡_, refl, sym, ap, ap₂, _∙_}
+use mathlib.Core.Path.{_≡_, refl, sym, ap, _∙_}
 use mathlib.Core.List.{List}
 use mathlib.Core.Bool.{Bool, true, false}
 use mathlib.Core.Option.{Option, none, some}
@@ -20,34 +20,11 @@ use Rattle.reading.specs.declared.item.Answer.the-variants.{Got, Refused}
 use Rattle.reading.proofs.Rules.{no}
 use Rattle.reading.proofs.Answers.{num, out}
 use Rattle.reading.proofs.ListViews.{option-at}
-use Rattle.findings.specs.Pairs.{equalPriority, noPriority}
 use Rattle.findings.specs.Scene.{field, Reads}
 use Rattle.findings.specs.Prints.{ranked}
 use Rattle.findings.specs.Parts.{Ranked}
-use Rattle.findings.specs.PairSteps.{BothEqual, BothBare, PriorityAt, EqualPriority, NoPriority}
-
-none-equal : (b : Option ℕ) → false ≡ equalPriority none b
-unfolding equalPriority
-none-equal none = refl
-none-equal (some y) = refl
-
-equal-none : (a : Option ℕ) → false ≡ equalPriority a none
-unfolding equalPriority
-equal-none none = refl
-equal-none (some x) = refl
-
-given-bare : (v : ℕ) (b : Option ℕ) → false ≡ noPriority (some v) b
-unfolding noPriority
-given-bare v none = refl
-given-bare v (some y) = refl
-
--- without priorities there are no equal ones
-pub bare-unequal : (a b : Option ℕ) → noPriority a b ≡ true → equalPriority a b ≡ false
-unfolding noPriority equalPriority
-bare-unequal none none e = refl
-bare-unequal none (some y) e = no (cc)
-bare-unequal (some x) none e = no (cc)
-bare-unequal (some x) (some y) e = no (cc)
+use Rattle.findings.specs.Classes.{bare, Bare}
+use Rattle.findings.specs.PairSteps.{PriorityAt, SamePriority}
 
 module _ (s : List ℕ) where
   abbrev Priority : ℕ → Option ℕ → Type 0
@@ -92,36 +69,40 @@ module _ (s : List ℕ) where
     }
 
   module _ {p q : ℕ} where
-    pub equal-first : {b : Bool} → b ≡ null p → b ≡ true → EqualPriority s p q false
-    equal-first e h = record { of = λ x y f g. rw (null-is (sym e ∙ h) f) (none-equal y) }
-
-    pub equal-second : {b : Bool} → b ≡ null q → b ≡ true → EqualPriority s p q false
-    equal-second e h = record { of = λ x y f g. rw (null-is (sym e ∙ h) g) (equal-none x) }
-
-    pub equal-given : {b c : Bool} {v w : ℕ} → b ≡ null p → b ≡ false → c ≡ null q → c ≡ false → PriorityAt s p v → PriorityAt s q w → EqualPriority s p q (eqb v w)
-    unfolding equalPriority
-    equal-given e h d k x y = record {
-      of = λ m n f g.
-          let u = given-is (sym e ∙ h) f in
-          let z = given-is (sym d ∙ k) g in
-          rw (u .1, z .1) (ap₂ eqb (x .of (u .0) (f .end) (u .2)) (y .of (z .0) (g .end) (z .2)));
+    pub priority-first : {b r : Bool} → b ≡ null p → b ≡ true → r ≡ null q → SamePriority s p q r
+    priority-first e h d = record {
+      of = λ m n f g. record {
+        holds = λ z. null-is (sym e ∙ h) f ∙ sym (null-is (sym d ∙ z) g);
+        fails = λ z y. let u = null-is (sym e ∙ h) f in let v = given-is (sym d ∙ z) g .1 in no (cc);
+      };
     }
 
-    pub bare-first : {b r : Bool} → b ≡ null p → b ≡ true → r ≡ null q → NoPriority s p q r
-    unfolding noPriority
-    bare-first {b} {r} e h d = record { of = λ m n f g. rw (null-is (sym e ∙ h) f) (second r d n g) }
-      where
-        second : (r : Bool) → r ≡ null q → (n : Option ℕ) → Priority q n → r ≡ noPriority none n
-        second true d n g = rw (null-is (sym d) g)
-        second false d n g = rw (given-is (sym d) g .1)
+    module _ {b c : Bool} (e : b ≡ null p) (h : b ≡ false) (d : c ≡ null q) where
+      pub priority-second : c ≡ true → SamePriority s p q false
+      priority-second k = record {
+        of = λ m n f g. record {
+          holds = λ z. no (cc);
+          fails = λ z y. let u = given-is (sym e ∙ h) f .1 in let v = null-is (sym d ∙ k) g in no (cc);
+        };
+      }
 
-    pub bare-given : {b : Bool} → b ≡ null p → b ≡ false → NoPriority s p q false
-    bare-given e h = record { of = λ m n f g. let u = given-is (sym e ∙ h) f in rw (u .1) (given-bare (u .0) n) }
+      pub priority-given : {v w : ℕ} → c ≡ false → PriorityAt s p v → PriorityAt s q w → SamePriority s p q (eqb v w)
+      priority-given {v} {w} k x y = record {
+        of = λ m n f g.
+            let i = given-is (sym e ∙ h) f in
+            let j = given-is (sym d ∙ k) g in
+            let a : v ≡ i .0 = x .of (i .0) (f .end) (i .2) in
+            let b : w ≡ j .0 = y .of (j .0) (g .end) (j .2) in
+            let l = i .1 in
+            let o = j .1 in
+            record {
+              holds = λ z. l ∙ ap some (sym a ∙ eqb-true v w z ∙ b) ∙ sym o;
+              fails = λ z r. let t : i .0 ≡ j .0 = cc in eqb-false v w z (a ∙ t ∙ sym b);
+            };
+      }
 
-  -- of two rows
-  module _ (rows : List ℕ) (i j : ℕ) {p q : ℕ} {r : Bool} where
-    pub equal-rows : EqualPriority s p q r → p ≡ field rows i 7 → q ≡ field rows j 7 → BothEqual s rows i j r
-    equal-rows g e f = let h = rw (e, f) at g in record { of = λ t u a b. h .of (t .priority) (u .priority) (a .priority-is) (b .priority-is) }
-
-    pub bare-rows : NoPriority s p q r → p ≡ field rows i 7 → q ≡ field rows j 7 → BothBare s rows i j r
-    bare-rows g e f = let h = rw (e, f) at g in record { of = λ t u a b. h .of (t .priority) (u .priority) (a .priority-is) (b .priority-is) }
+  -- of a row
+  pub bare-row : {p : ℕ} (rows : List ℕ) (i : ℕ) (r : Bool) → r ≡ null p → p ≡ field rows i 7 → Bare s rows i r
+  unfolding bare
+  bare-row rows i true d e = let h = rw e at d in record { of = λ t a. rw (null-is (sym h) (a .priority-is)) }
+  bare-row rows i false d e = let h = rw e at d in record { of = λ t a. rw (given-is (sym h) (a .priority-is) .1) }

@@ -28,11 +28,11 @@ any-here p x xs ys e = ap (any p) e
 
 -- unequal words of two rows of prints tell the keys apart, and equal ones don't
 module _ (prints : List ℕ) (i j : ℕ) (t u : Transition) (p : PrintOf prints i t) (q : PrintOf prints j u) where
-  pub keys-apart : (printAt prints j 2 ≡ printAt prints i 2 → ⊥) → false ≡ rival t u
+  keys-apart : (printAt prints j 2 ≡ printAt prints i 2 → ⊥) → false ≡ rival t u
   unfolding rival
   keys-apart d = sym (ne-eqb (keyOf t) (keyOf u) (λ e. d (q .key-is ∙ sym e ∙ sym (p .key-is))))
 
-  pub keys-same : printAt prints j 2 ≡ printAt prints i 2 → true ≡ rival t u
+  keys-same : printAt prints j 2 ≡ printAt prints i 2 → true ≡ rival t u
   unfolding rival
   keys-same d = sym (eq-eqb (keyOf t) (keyOf u) (sym (p .key-is) ∙ sym d ∙ q .key-is))
 

@@ -6,6 +6,7 @@ use mathlib.Core.Bool.{Bool, true, false}
 use mathlib.Core.Option.{none, some}
 use native.Mathlib.Omega.{arith}
 use native.Mathlib.Numerals.{add-one}
+use lib.Dec.{eqb}
 use lib.ListN.{length, drop, getD, getElem?, replicate, drop-of-length-le}
 use Rattle.reading.specs.Text.{Name}
 use Rattle.reading.specs.Skip.{textAt}
@@ -18,17 +19,19 @@ use Rattle.findings.specs.Order.{least, without, ordered}
 use Rattle.findings.specs.Pairs.{stateOf, stateNames, byState}
 use Rattle.findings.specs.Noting.{Noted}
 use Rattle.findings.specs.Scene.{field, Rows}
-use Rattle.findings.specs.Prints.{printAt, Prints}
+use Rattle.findings.specs.Prints.{Prints}
 use Rattle.findings.specs.Promises.{at-place}
-use Rattle.findings.specs.PairPromises.{pairNotes, NotesPair, NotesPairs}
+use Rattle.findings.specs.PairPromises.{pairNotes, NotesPairs}
 use Rattle.findings.specs.PairSteps.{NoPairs}
+use Rattle.findings.specs.Classes.{kindNotes, Bare, Classed}
 use Rattle.findings.specs.StateSteps.{undone, nextName, stateIn, NextState, StateMarked, inState, NotesLater, NotesRow, NotesOfState}
 use Rattle.findings.proofs.NoteLaws.{note-nothing, note-as}
 use Rattle.findings.proofs.EachLaws.{Left, left-all, left-more, left-none, eachFrom, each-turn, each-done}
 use Rattle.findings.proofs.PlaceLaws.{entry-at, entry-past, drop-entry}
 use Rattle.findings.proofs.PairTests.{states-bytes, states-differ}
-use Rattle.findings.proofs.ClashLaws.{rival-none}
-use Rattle.findings.proofs.RivalLaws.{keys-apart, each-none, by-state-none}
+use Rattle.findings.proofs.ClashLaws.{kind-none, kind-notes}
+use Rattle.findings.proofs.FirstLaws.{one-kind, two-kinds, guards-told}
+use Rattle.findings.proofs.RivalLaws.{each-none, by-state-none}
 
 each-as : {A B : Type 0} (f g : A → List B) (xs : List A) → ((x : A) → f x ≡ g x) → each f xs ≡ each g xs
 each-as f g [] h = refl
@@ -44,20 +47,23 @@ module _ (s : List ℕ) (owner : ℕ) (o : List ℕ) (skip n : ℕ) (rows prints
     later-start = record { of = λ ts R P e t g. left-all owner o skip n _ }
 
     module _ {j m : ℕ} {out : List ℕ} (w : LaterLeft j m out) where
-      pub later-more : {r : ℕ} {o′ : List ℕ} {m′ : ℕ} {out′ : List ℕ} → j < count → NotesPair s owner out skip m r o′ rows i j warn → m′ ≡ r → out′ ≡ o′ → LaterLeft (j + 1) m′ out′
-      later-more h p x y = rw (x, y) (record {
-        of = λ ts R P e t g.
-            let u = entry-at ts j (omega arith) in
-            each-turn (pairNotes warn (at-place i t)) j ts (u .item) (u .is) (w .of ts R P e t g) (p .of t (u .item) (R .at i t g) (R .at j (u .item) (u .is)));
-      })
+      module _ {kinds guards : List ℕ} (k : Classed s rows prints count kinds guards) where
+        pub later-more : {b : Bool} {r : ℕ} {o′ : List ℕ} {m′ : ℕ} {out′ : List ℕ} → j < count → Bare s rows i b → getD kinds j 0 ≡ getD kinds i 0 → Noted owner out skip m (kindNotes warn b (eqb (getD guards i 0) (getD guards j 0)) i j) r o′ → m′ ≡ r → out′ ≡ o′ → LaterLeft (j + 1) m′ out′
+        later-more h a d p x y = rw (x, y) (record {
+          of = λ ts R P e t g.
+              let u = entry-at ts j (omega arith) in
+              let v = one-kind k ts R P e i j t (u .item) g (u .is) d in
+              let z = guards-told k ts R P e i j t (u .item) g (u .is) in
+              each-turn (pairNotes warn (at-place i t)) j ts (u .item) (u .is) (w .of ts R P e t g) (note-as owner _ (kind-notes warn i j t (u .item) v (a .of t (R .at i t g)) z) p);
+        })
 
-      pub later-skip : {m′ : ℕ} {out′ : List ℕ} → j < count → (printAt prints j 2 ≡ printAt prints i 2 → ⊥) → m′ ≡ m → out′ ≡ out → LaterLeft (j + 1) m′ out′
-      later-skip h d x y = rw (x, y) (record {
-        of = λ ts R P e t g.
-            let u = entry-at ts j (omega arith) in
-            let a = keys-apart prints i j t (u .item) (P .at i t g) (P .at j (u .item) (u .is)) d in
-            each-turn (pairNotes warn (at-place i t)) j ts (u .item) (u .is) (w .of ts R P e t g) (note-as owner _ (rival-none warn (at-place i t) (at-place j (u .item)) a) (note-nothing owner out skip m));
-      })
+        pub later-skip : {m′ : ℕ} {out′ : List ℕ} → j < count → (getD kinds j 0 ≡ getD kinds i 0 → ⊥) → m′ ≡ m → out′ ≡ out → LaterLeft (j + 1) m′ out′
+        later-skip h d x y = rw (x, y) (record {
+          of = λ ts R P e t g.
+              let u = entry-at ts j (omega arith) in
+              let v = two-kinds k ts R P e i j t (u .item) g (u .is) d in
+              each-turn (pairNotes warn (at-place i t)) j ts (u .item) (u .is) (w .of ts R P e t g) (note-as owner _ (kind-none warn (at-place i t) (at-place j (u .item)) v) (note-nothing owner out skip m));
+        })
 
       pub later-done : count ≤ j → NotesLater s owner o skip n m out rows prints count warn i
       later-done h = record {

@@ -12,8 +12,9 @@ pub mod Demand
 pub mod Sheet
 pub mod Noting
 pub mod Scene
-pub mod Promises
 pub mod Prints
+pub mod Variants
+pub mod Promises
 pub mod PairPromises
 pub mod WarningPromises
 pub mod ModulePromises
@@ -22,6 +23,7 @@ pub mod Walks
 pub mod Touch
 pub mod Uses
 pub mod Parts
+pub mod Classes
 pub mod PairSteps
 pub mod StateSteps
 pub mod Reaching

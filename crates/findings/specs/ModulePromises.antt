@@ -35,8 +35,8 @@ module _ (s : List ℕ) (owner : ℕ) (o : List ℕ) (skip n r : ℕ) (o′ : Li
     pub of : (m : Module) → Scene s places m → StatesAt s found (states m) → Agree (envAt s names enums) (forModule m) → Claims s properties (claims m) → Noted owner o skip n (closing m) r o′
 
   -- sites 1 to 13
-  pub record NotesFore (rows : List ℕ) (count : ℕ) (names enums : List ℕ) : Type 0 where
-    pub of : (m : Module) → Scene s places m → Rows s rows (m .transitions) → count ≡ length (m .transitions) → StatesAt s found (states m) → Agree (envAt s names enums) (forModule m) → Noted owner o skip n (opening m (not (isEmpty (m .transitions))) ++ each (own m) (placed 0 (m .transitions))) r o′
+  pub record NotesFore (rows prints : List ℕ) (count : ℕ) (names enums : List ℕ) : Type 0 where
+    pub of : (m : Module) → Scene s places m → Rows s rows (m .transitions) → Prints prints (m .transitions) → count ≡ length (m .transitions) → StatesAt s found (states m) → Agree (envAt s names enums) (forModule m) → Noted owner o skip n (opening m (not (isEmpty (m .transitions))) ++ each (own m) (placed 0 (m .transitions))) r o′
 
   -- sites 1 to 15
   pub record NotesMost (rows prints : List ℕ) (count : ℕ) (names enums : List ℕ) : Type 0 where

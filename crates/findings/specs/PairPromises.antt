@@ -13,7 +13,6 @@ use Rattle.findings.specs.Pairs.{sameGuard, clash, ambiguous, byState}
 use Rattle.findings.specs.Noting.{Noted}
 use Rattle.findings.specs.Scene.{RowAt, Rows}
 use Rattle.findings.specs.Prints.{PrintOf, Prints}
-use Rattle.findings.specs.Promises.{at-place}
 
 -- the prints of the transitions of rows
 pub record Printed (s rows : List ℕ) (count : ℕ) (prints : List ℕ) : Type 0 where
@@ -39,9 +38,6 @@ unfoldable pub pairNotes : Bool → Placed Transition → Placed Transition → 
 pairNotes warn x y = cond warn (ambiguous x y) (clash x y)
 
 module _ (s : List ℕ) (owner : ℕ) (o : List ℕ) (skip n r : ℕ) (o′ : List ℕ) (rows : List ℕ) where
-  pub record NotesPair (i j : ℕ) (warn : Bool) : Type 0 where
-    pub of : (t u : Transition) → RowAt s rows i t → RowAt s rows j u → Noted owner o skip n (pairNotes warn (at-place i t) (at-place j u)) r o′
-
   -- sites 14 and 15, or site 24
   pub record NotesPairs (prints : List ℕ) (count : ℕ) (warn : Bool) : Type 0 where
     pub of : (ts : List Transition) → Rows s rows ts → Prints prints ts → count ≡ length ts → Noted owner o skip n (byState (pairNotes warn) ts) r o′

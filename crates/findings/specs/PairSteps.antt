@@ -11,11 +11,10 @@ use Rattle.reading.specs.Item.{readNumber}
 use Rattle.reading.specs.Combine.{optional}
 use Rattle.reading.specs.Transition.{Transition}
 use Rattle.findings.specs.Lists.{any}
-use Rattle.findings.specs.Pairs.{equalPriority, noPriority, samePattern, alike, clash, ambiguous}
-use Rattle.findings.specs.Noting.{Noted}
+use Rattle.findings.specs.Pairs.{samePattern, alike}
 use Rattle.findings.specs.Scene.{Reads, RowAt}
 use Rattle.findings.specs.Prints.{rival, Prints}
-use Rattle.findings.specs.Promises.{at-place}
+use Rattle.findings.specs.Classes.{Says}
 
 module _ (s rows : List ℕ) (i j : ℕ) (r : Bool) where
   pub record SamePattern : Type 0 where
@@ -24,31 +23,13 @@ module _ (s rows : List ℕ) (i j : ℕ) (r : Bool) where
   pub record Alike : Type 0 where
     pub of : (t u : Transition) → RowAt s rows i t → RowAt s rows j u → r ≡ alike t u
 
-  pub record BothEqual : Type 0 where
-    pub of : (t u : Transition) → RowAt s rows i t → RowAt s rows j u → r ≡ equalPriority (t .priority) (u .priority)
-
-  pub record BothBare : Type 0 where
-    pub of : (t u : Transition) → RowAt s rows i t → RowAt s rows j u → r ≡ noPriority (t .priority) (u .priority)
-
 -- the priority at a place
 pub record PriorityAt (s : List ℕ) (at r : ℕ) : Type 0 where
   pub of : (v n : ℕ) → readNumber maxU32 s at ≡ ok v n → r ≡ v
 
--- those at two places
-module _ (s : List ℕ) (p q : ℕ) (r : Bool) where
-  pub record EqualPriority : Type 0 where
-    pub of : (a b : Option ℕ) → Reads (optional (readNumber maxU32)) s p a → Reads (optional (readNumber maxU32)) s q b → r ≡ equalPriority a b
-
-  pub record NoPriority : Type 0 where
-    pub of : (a b : Option ℕ) → Reads (optional (readNumber maxU32)) s p a → Reads (optional (readNumber maxU32)) s q b → r ≡ noPriority a b
-
--- two that are alike
-module _ (s : List ℕ) (owner : ℕ) (o : List ℕ) (skip n r : ℕ) (o′ : List ℕ) (rows : List ℕ) (i j : ℕ) where
-  pub record NotesClash : Type 0 where
-    pub of : (t u : Transition) → RowAt s rows i t → RowAt s rows j u → alike t u ≡ true → Noted owner o skip n (clash (at-place i t) (at-place j u)) r o′
-
-  pub record NotesAmbiguous : Type 0 where
-    pub of : (t u : Transition) → RowAt s rows i t → RowAt s rows j u → alike t u ≡ true → Noted owner o skip n (ambiguous (at-place i t) (at-place j u)) r o′
+-- whether those at two places are both absent, or both given and equal
+pub record SamePriority (s : List ℕ) (p q : ℕ) (r : Bool) : Type 0 where
+  pub of : (a b : Option ℕ) → Reads (optional (readNumber maxU32)) s p a → Reads (optional (readNumber maxU32)) s q b → Says r (a ≡ b)
 
 -- whether an earlier and a later transition have one key
 unfoldable pub hasPair : List Transition → Bool

@@ -32,6 +32,8 @@ use Rattle.findings.specs.Mentions.{enumVariants, states}
 use Rattle.findings.specs.Errors.{unknownState, isEmpty, initialNotes, versionNotes, initNotes, opening, guardNotes, setNotes, emitNotes, bodyNotes, own, errorEmitNotes, onErrorNotes, propertyName, repeatNotes, formulaNotes}
 use Rattle.findings.specs.Noting.{Noted, numbered}
 use Rattle.findings.specs.Scene.{Bytes, Reads, RowAt, Rows, Scene, StatesAt}
+use Rattle.findings.specs.Prints.{print, PrintOf, Prints}
+use Rattle.findings.specs.Variants.{Variants}
 
 -- an entry with its place
 abbrev pub at-place : {A : Type 0} → ℕ → A → Placed A
@@ -76,6 +78,10 @@ module _ (s : List ℕ) (owner : ℕ) (o : List ℕ) (skip n r : ℕ) (o′ : Li
   pub record NotesState (found : Found) (at site first : ℕ) : Type 0 where
     pub of : (vs : List Name) (w : Name) → StatesAt s found vs → textAt s at ≡ w → Notes (unknownState vs w (note site first 0 0))
 
+  -- the same by the table of the State variants, of a name that has the print p
+  pub record NotesVariant (variants : List ℕ) (at p site first : ℕ) : Type 0 where
+    pub of : (vs : List Name) (w : Name) → Variants s variants vs → textAt s at ≡ w → p ≡ print 0 w → Notes (unknownState vs w (note site first 0 0))
+
   pub record NotesInitial (found : Found) (at : ℕ) (moves : Bool) : Type 0 where
     pub of : (vs : List Name) (w : Option Name) → StatesAt s found vs → Reads (optional readName) s at w → Notes (initialNotes vs w moves)
 
@@ -110,19 +116,23 @@ module _ (s : List ℕ) (owner : ℕ) (o : List ℕ) (skip n r : ℕ) (o′ : Li
     pub of : (t : Transition) (gs : List ConstructorGroup) (env : Env) → RowAt s rows i t → Groups s outputs gs → Agree (envAt s names enums) env → Known s vars env → Notes (bodyNotes env gs (at-place i t))
 
   -- sites 6 to 8, by the number of what is wrong with the pattern
-  pub record NotesHeads (rows : List ℕ) (i : ℕ) (found : Found) (cause : ℕ) : Type 0 where
-    pub of : (vs : List Name) (t : Transition) → RowAt s rows i t → StatesAt s found vs → Notes (unknownState vs (t .state) (note 6 i 0 0) ++ unknownState vs (t .next-state) (note 7 i 0 0) ++ numbered 8 i 0 cause)
+  pub record NotesHeads (rows prints : List ℕ) (i : ℕ) (variants : List ℕ) (cause : ℕ) : Type 0 where
+    pub of : (vs : List Name) (t : Transition) → RowAt s rows i t → PrintOf prints i t → Variants s variants vs → Notes (unknownState vs (t .state) (note 6 i 0 0) ++ unknownState vs (t .next-state) (note 7 i 0 0) ++ numbered 8 i 0 cause)
 
   -- sites 6 to 13, by that number and by the names that the pattern binds too
-  pub record NotesJudged (places rows : List ℕ) (i : ℕ) (found : Found) (cause : ℕ) (vars names enums : List ℕ) : Type 0 where
-    pub of : (m : Module) (t : Transition) (env : Env) → Scene s places m → RowAt s rows i t → StatesAt s found (states m) → Agree (envAt s names enums) env → Known s vars env → Notes (unknownState (states m) (t .state) (note 6 i 0 0) ++ unknownState (states m) (t .next-state) (note 7 i 0 0) ++ numbered 8 i 0 cause ++ bodyNotes env (m .outputs) (at-place i t))
+  pub record NotesJudged (places rows prints : List ℕ) (i : ℕ) (variants : List ℕ) (cause : ℕ) (vars names enums : List ℕ) : Type 0 where
+    pub of : (m : Module) (t : Transition) (env : Env) → Scene s places m → RowAt s rows i t → PrintOf prints i t → Variants s variants (states m) → Agree (envAt s names enums) env → Known s vars env → Notes (unknownState (states m) (t .state) (note 6 i 0 0) ++ unknownState (states m) (t .next-state) (note 7 i 0 0) ++ numbered 8 i 0 cause ++ bodyNotes env (m .outputs) (at-place i t))
 
   -- the first k words of the table are the module's variables; bindings come after them
-  pub record NotesTransition (places rows : List ℕ) (i : ℕ) (found : Found) (table : List ℕ) (k : ℕ) (enums : List ℕ) : Type 0 where
-    pub of : (m : Module) (t : Transition) → Scene s places m → RowAt s rows i t → StatesAt s found (states m) → Agree (envAt s (take k table) enums) (forModule m) → Notes (own m (at-place i t))
+  pub record NotesTransition (places rows prints : List ℕ) (i : ℕ) (variants table : List ℕ) (k : ℕ) (enums : List ℕ) : Type 0 where
+    pub of : (m : Module) (t : Transition) → Scene s places m → RowAt s rows i t → PrintOf prints i t → Variants s variants (states m) → Agree (envAt s (take k table) enums) (forModule m) → Notes (own m (at-place i t))
 
-  pub record NotesTransitions (places rows : List ℕ) (count : ℕ) (found : Found) (table : List ℕ) (k : ℕ) (enums : List ℕ) : Type 0 where
-    pub of : (m : Module) → Scene s places m → Rows s rows (m .transitions) → count ≡ length (m .transitions) → StatesAt s found (states m) → Agree (envAt s (take k table) enums) (forModule m) → Notes (each (own m) (placed 0 (m .transitions)))
+  pub record NotesTransitions (places rows prints : List ℕ) (count : ℕ) (variants table : List ℕ) (k : ℕ) (enums : List ℕ) : Type 0 where
+    pub of : (m : Module) → Scene s places m → Rows s rows (m .transitions) → Prints prints (m .transitions) → count ≡ length (m .transitions) → Variants s variants (states m) → Agree (envAt s (take k table) enums) (forModule m) → Notes (each (own m) (placed 0 (m .transitions)))
+
+  -- the same where the State variants stand at a place
+  pub record NotesMoves (places rows prints : List ℕ) (count : ℕ) (found : Found) (table : List ℕ) (k : ℕ) (enums : List ℕ) : Type 0 where
+    pub of : (m : Module) → Scene s places m → Rows s rows (m .transitions) → Prints prints (m .transitions) → count ≡ length (m .transitions) → StatesAt s found (states m) → Agree (envAt s (take k table) enums) (forModule m) → Notes (each (own m) (placed 0 (m .transitions)))
 
   -- sites 16 and 17
   pub record NotesErrorEmits (at outputs : ℕ) (names enums : List ℕ) : Type 0 where

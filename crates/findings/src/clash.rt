@@ -1,30 +1,25 @@
-// What is noted of two transitions that share state and pattern.
-use crate::pairs::same_guard;
-use crate::priority::equal_priority;
-use crate::priority::no_priority;
+// What is noted of two transitions of one kind.
 use crate::rows::field;
 use crate::sheet::emit_if;
+use typing::null_at;
 ghost use Prim.Native.Nat.{_+_, _≤_, _^_};
-ghost use Rattle.findings.specs.PairSteps.{BothEqual, BothBare, NotesClash, NotesAmbiguous};
+ghost use lib.Dec.{eqb};
+ghost use lib.ListN.{getD};
+ghost use Rattle.findings.specs.Noting.{Noted};
+ghost use Rattle.findings.specs.Classes.{Bare, kindNotes};
 
-// Whether both have priorities, and equal ones.
-fn both_equal(doc: &[u8], rows: &[usize], i: u8, j: u8) -> bool
-    ensures { λ r. ⌜ BothEqual (now (doc .entry)) (now (rows .entry)) i j r ⌝ }
+// Whether transition i has no priority.
+pub(crate) fn no_priority(doc: &[u8], rows: &[usize], i: u8) -> bool
+    ensures { λ r. ⌜ Bare (now (doc .entry)) (now (rows .entry)) i r ⌝ }
 {
-    equal_priority(doc, field(rows, i, 7), field(rows, j, 7))
+    null_at(doc, field(rows, i, 7))
 }
 
-// Whether both are without priorities.
-fn both_bare(doc: &[u8], rows: &[usize], i: u8, j: u8) -> bool
-    ensures { λ r. ⌜ BothBare (now (doc .entry)) (now (rows .entry)) i j r ⌝ }
-{
-    no_priority(doc, field(rows, i, 7), field(rows, j, 7))
-}
-
-// Notes site 14 or site 15.
-pub(crate) fn note_clash(
-    doc: &[u8],
-    rows: &[usize],
+// Notes site 14 of two of one kind; without priorities site 15 or site 24, by the numbers of their guards.
+pub(crate) fn note_pair(
+    guards: &[u8; 256],
+    bare: bool,
+    warn: bool,
     i: u8,
     j: u8,
     out: &mut [u32],
@@ -33,35 +28,15 @@ pub(crate) fn note_clash(
     owner: u32,
 ) -> usize
     requires { ⌜ n + 1 ≤ 2 ^ 40 ⌝ }
-    ensures { λ r. ⌜ NotesClash (now (doc .entry)) owner (now (out .entry)) skip n r (now (out .exit)) (now (rows .entry)) i j ⌝ }
+    ensures { λ r. ⌜ Noted owner (now (out .entry)) skip n (kindNotes warn bare (eqb (getD (now (guards .entry)) i 0) (getD (now (guards .entry)) j 0)) i j) r (now (out .exit)) ⌝ }
     ensures { λ r. ⌜ r ≤ n + 1 ⌝ }
 {
-    if both_bare(doc, rows, i, j) {
-        let same = same_guard(doc, rows, i, j);
-        return emit_if(same, out, skip, n, owner, 15, i as u32, j as u32);
+    if !bare {
+        return emit_if(!warn, out, skip, n, owner, 14, i as u32, j as u32);
     }
-    let equal = both_equal(doc, rows, i, j);
-    emit_if(equal, out, skip, n, owner, 14, i as u32, j as u32)
-}
-
-// Notes site 24.
-pub(crate) fn note_ambiguous(
-    doc: &[u8],
-    rows: &[usize],
-    i: u8,
-    j: u8,
-    out: &mut [u32],
-    skip: usize,
-    n: usize,
-    owner: u32,
-) -> usize
-    requires { ⌜ n + 1 ≤ 2 ^ 40 ⌝ }
-    ensures { λ r. ⌜ NotesAmbiguous (now (doc .entry)) owner (now (out .entry)) skip n r (now (out .exit)) (now (rows .entry)) i j ⌝ }
-    ensures { λ r. ⌜ r ≤ n + 1 ⌝ }
-{
-    if both_bare(doc, rows, i, j) {
-        let other = !same_guard(doc, rows, i, j);
-        return emit_if(other, out, skip, n, owner, 24, i as u32, j as u32);
+    let same = guards[i as usize] == guards[j as usize];
+    if warn {
+        return emit_if(!same, out, skip, n, owner, 24, i as u32, j as u32);
     }
-    n
+    emit_if(same, out, skip, n, owner, 15, i as u32, j as u32)
 }

@@ -2,7 +2,7 @@
 use crate::module::note_closing;
 use crate::opening::note_opening;
 use crate::pairs::note_pairs;
-use crate::transition::note_transitions;
+use crate::transition::note_moves;
 use typing::Found;
 ghost use mathlib.Core.Path.{_≡_};
 ghost use Prim.Native.Nat.{_+_, _*_, _≤_, _^_};
@@ -14,6 +14,7 @@ fn note_fore<'a>(
     doc: &'a [u8],
     places: &'a [usize],
     rows: &'a [usize],
+    prints: &'a [u32],
     count: u8,
     found: Found,
     table: &mut [usize],
@@ -26,7 +27,7 @@ fn note_fore<'a>(
 ) -> usize
     requires { ⌜ n + 131328 ≤ 2 ^ 40 ⌝ }
     requires { ⌜ 1020 ≤ length (now table) ⌝ }
-    ensures { λ r. ⌜ NotesFore (now (doc .entry)) owner (now (out .entry)) skip n r (now (out .exit)) (now (places .entry)) found (now (rows .entry)) count (take (2 * vars) (now (table .entry))) (now (enums .entry)) ⌝ }
+    ensures { λ r. ⌜ NotesFore (now (doc .entry)) owner (now (out .entry)) skip n r (now (out .exit)) (now (places .entry)) found (now (rows .entry)) (now (prints .entry)) count (take (2 * vars) (now (table .entry))) (now (enums .entry)) ⌝ }
     ensures { λ r. ⌜ r ≤ n + 131328 ⌝ }
     ensures { λ _. ⌜ length (now (table .exit)) ≡ length (now (table .entry)) ⌝ }
     ensures { λ _. ⌜ take (2 * vars) (now (table .exit)) ≡ take (2 * vars) (now (table .entry)) ⌝ }
@@ -45,10 +46,11 @@ fn note_fore<'a>(
         n,
         owner,
     );
-    note_transitions(
+    note_moves(
         doc,
         places,
         rows,
+        prints,
         count,
         found,
         table,
@@ -89,6 +91,7 @@ fn note_most<'a>(
         doc,
         places,
         rows,
+        prints,
         count,
         found,
         table,

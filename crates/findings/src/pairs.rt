@@ -1,7 +1,5 @@
 // Pairs of transitions: which share state and pattern, and what is noted of those that do.
 use crate::by_state::note_by_state;
-use crate::clash::note_ambiguous;
-use crate::clash::note_clash;
 use crate::prints::part;
 use crate::prints::print_word;
 use crate::rows::field;
@@ -14,7 +12,7 @@ ghost use Rattle.reading.specs.Skip.{textAt};
 ghost use Rattle.typing.specs.Names.{eqName};
 ghost use Rattle.findings.specs.Scene.{field};
 ghost use Rattle.findings.specs.Parts.{SameSpan};
-ghost use Rattle.findings.specs.PairPromises.{SameState, LeadsTo, SameGuard, NotesPair, NotesPairs};
+ghost use Rattle.findings.specs.PairPromises.{SameState, LeadsTo, SameGuard, NotesPairs};
 ghost use Rattle.findings.specs.PairSteps.{SamePattern, Alike, HasRival, NoPairs};
 
 // Whether the bytes from a to b and those from c to d are the same.
@@ -78,7 +76,7 @@ pub(crate) fn same_guard(doc: &[u8], rows: &[usize], i: u8, j: u8) -> bool
 }
 
 // Whether transitions i and j share state and pattern.
-fn alike(doc: &[u8], rows: &[usize], i: u8, j: u8) -> bool
+pub(crate) fn alike(doc: &[u8], rows: &[usize], i: u8, j: u8) -> bool
     ensures { λ r. ⌜ Alike (now (doc .entry)) (now (rows .entry)) i j r ⌝ }
 {
     if same_fields(doc, rows, i, 1, j, 1) {
@@ -125,31 +123,6 @@ pub(crate) fn no_pairs(prints: &[u32], count: u8) -> bool
         seen[w] = 1;
     }
     true
-}
-
-// Notes sites 14 and 15 of transitions i and j, or site 24.
-pub(crate) fn note_pair(
-    doc: &[u8],
-    rows: &[usize],
-    i: u8,
-    j: u8,
-    warn: bool,
-    out: &mut [u32],
-    skip: usize,
-    n: usize,
-    owner: u32,
-) -> usize
-    requires { ⌜ n + 2 ≤ 2 ^ 40 ⌝ }
-    ensures { λ r. ⌜ NotesPair (now (doc .entry)) owner (now (out .entry)) skip n r (now (out .exit)) (now (rows .entry)) i j warn ⌝ }
-    ensures { λ r. ⌜ r ≤ n + 2 ⌝ }
-{
-    if !alike(doc, rows, i, j) {
-        return n;
-    }
-    if warn {
-        return note_ambiguous(doc, rows, i, j, out, skip, n, owner);
-    }
-    note_clash(doc, rows, i, j, out, skip, n, owner)
 }
 
 // Notes sites 14 and 15 of all pairs, or site 24: by state in byte order, and by places.

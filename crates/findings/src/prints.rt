@@ -40,7 +40,7 @@ fn next_print(h: u32, b: u8) -> u32
 }
 
 // The print of bytes after h.
-fn print_bytes(bytes: &[u8], h: u32) -> u32
+pub(crate) fn print_bytes(bytes: &[u8], h: u32) -> u32
     ensures { λ r. ⌜ r ≡ print h (now (bytes .entry)) ⌝ }
 {
     let mut p = h;

@@ -3,7 +3,7 @@ use reading::Answer;
 use reading::Cursor;
 use typing::null_at;
 ghost use Rattle.findings.specs.Parts.{Ranked};
-ghost use Rattle.findings.specs.PairSteps.{PriorityAt, EqualPriority, NoPriority};
+ghost use Rattle.findings.specs.PairSteps.{PriorityAt, SamePriority};
 
 // The number at a place; 0 where none stands there.
 fn priority_at(doc: &[u8], at: usize) -> u64
@@ -29,25 +29,15 @@ pub(crate) fn rank(doc: &[u8], at: usize, h: u32) -> u32
     (n % 4294967296) as u32
 }
 
-// Whether both are given and equal.
-pub(crate) fn equal_priority(doc: &[u8], p: usize, q: usize) -> bool
-    ensures { λ r. ⌜ EqualPriority (now (doc .entry)) p q r ⌝ }
+// Whether both are absent, or both given and equal.
+pub(crate) fn same_priority(doc: &[u8], p: usize, q: usize) -> bool
+    ensures { λ r. ⌜ SamePriority (now (doc .entry)) p q r ⌝ }
 {
     if null_at(doc, p) {
-        return false;
+        return null_at(doc, q);
     }
     if null_at(doc, q) {
         return false;
     }
     priority_at(doc, p) == priority_at(doc, q)
-}
-
-// Whether neither is given.
-pub(crate) fn no_priority(doc: &[u8], p: usize, q: usize) -> bool
-    ensures { λ r. ⌜ NoPriority (now (doc .entry)) p q r ⌝ }
-{
-    if null_at(doc, p) {
-        return null_at(doc, q);
-    }
-    false
 }

@@ -1,11 +1,13 @@
 // What is noted of each transition by itself.
 use crate::emits::note_emits;
 use crate::guard::note_guard;
+use crate::prints::print_word;
 use crate::rows::field;
 use crate::rows::word;
 use crate::sets::note_sets;
 use crate::sheet::emit_cause;
-use crate::states::note_state;
+use crate::variants::fill_states;
+use crate::variants::note_variant;
 use typing::Bindings;
 use typing::Found;
 use typing::blame_number;
@@ -15,7 +17,7 @@ ghost use Prim.Native.Nat.{_+_, _*_, _≤_, _^_};
 ghost use lib.ListN.{length, getD, take};
 ghost use Rattle.typing.specs.Blames.{Spares, JudgesPattern};
 ghost use Rattle.findings.specs.Scene.{field};
-ghost use Rattle.findings.specs.Promises.{NotesBody, NotesHeads, NotesJudged, NotesTransition, NotesTransitions};
+ghost use Rattle.findings.specs.Promises.{NotesBody, NotesHeads, NotesJudged, NotesTransition, NotesTransitions, NotesMoves};
 
 // Sites 9 to 13, of transition i: its guard, its assignments, then its outputs.
 pub(crate) fn note_body<'a>(
@@ -47,8 +49,9 @@ pub(crate) fn note_body<'a>(
 fn note_heads<'a>(
     doc: &'a [u8],
     rows: &'a [usize],
+    prints: &'a [u32],
     i: u8,
-    found: Found,
+    variants: &'a [usize],
     cause: u32,
     out: &mut [u32],
     skip: usize,
@@ -56,14 +59,16 @@ fn note_heads<'a>(
     owner: u32,
 ) -> usize
     requires { ⌜ n + 3 ≤ 2 ^ 40 ⌝ }
-    ensures { λ r. ⌜ NotesHeads (now (doc .entry)) owner (now (out .entry)) skip n r (now (out .exit)) (now (rows .entry)) i found cause ⌝ }
+    ensures { λ r. ⌜ NotesHeads (now (doc .entry)) owner (now (out .entry)) skip n r (now (out .exit)) (now (rows .entry)) (now (prints .entry)) i (now (variants .entry)) cause ⌝ }
     ensures { λ r. ⌜ r ≤ n + 3 ⌝ }
 {
     let first = i as u32;
     let state = field(rows, i, 1);
-    let a = note_state(doc, found, state, out, skip, n, owner, 6, first);
+    let p = print_word(prints, i, 0);
+    let a = note_variant(doc, variants, state, p, out, skip, n, owner, 6, first);
     let next = field(rows, i, 4);
-    let b = note_state(doc, found, next, out, skip, a, owner, 7, first);
+    let q = print_word(prints, i, 1);
+    let b = note_variant(doc, variants, next, q, out, skip, a, owner, 7, first);
     emit_cause(cause, out, skip, b, owner, 8, first, 0)
 }
 
@@ -73,8 +78,9 @@ fn note_judged<'a>(
     doc: &'a [u8],
     places: &'a [usize],
     rows: &'a [usize],
+    prints: &'a [u32],
     i: u8,
-    found: Found,
+    variants: &'a [usize],
     cause: u32,
     names: &'a [usize],
     k: usize,
@@ -86,10 +92,10 @@ fn note_judged<'a>(
 ) -> usize
     requires { ⌜ n + 514 ≤ 2 ^ 40 ⌝ }
     requires { ⌜ k ≤ length (now names) ⌝ }
-    ensures { λ r. ⌜ NotesJudged (now (doc .entry)) owner (now (out .entry)) skip n r (now (out .exit)) (now (places .entry)) (now (rows .entry)) i found cause (take k (now (names .entry))) (now (names .entry)) (now (enums .entry)) ⌝ }
+    ensures { λ r. ⌜ NotesJudged (now (doc .entry)) owner (now (out .entry)) skip n r (now (out .exit)) (now (places .entry)) (now (rows .entry)) (now (prints .entry)) i (now (variants .entry)) cause (take k (now (names .entry))) (now (names .entry)) (now (enums .entry)) ⌝ }
     ensures { λ r. ⌜ r ≤ n + 514 ⌝ }
 {
-    let a = note_heads(doc, rows, i, found, cause, out, skip, n, owner);
+    let a = note_heads(doc, rows, prints, i, variants, cause, out, skip, n, owner);
     let outputs = word(places, 6);
     let vars = &names[0..k];
     note_body(
@@ -116,8 +122,10 @@ fn judge_pattern<'a>(
     table: &mut [usize],
     k: usize,
 ) -> Bindings
+    requires { ⌜ k + 510 ≤ length (now table) ⌝ }
     ensures { λ r. ⌜ JudgesPattern (now (doc .entry)) (field (now (rows .entry)) i 2) (getD (now (places .entry)) 5 0) (now (table .entry)) k r (now (table .exit)) ⌝ }
     ensures { λ r. ⌜ Spares (now (table .entry)) k r (now (table .exit)) ⌝ }
+    ensures { λ r. ⌜ k + r .words ≤ length (now (table .entry)) ⌝ }
 {
     let at = field(rows, i, 2);
     let events = word(places, 5);
@@ -130,8 +138,9 @@ pub(crate) fn note_transition<'a>(
     doc: &'a [u8],
     places: &'a [usize],
     rows: &'a [usize],
+    prints: &'a [u32],
     i: u8,
-    found: Found,
+    variants: &'a [usize],
     table: &mut [usize],
     vars: u8,
     enums: &'a [usize],
@@ -142,7 +151,7 @@ pub(crate) fn note_transition<'a>(
 ) -> usize
     requires { ⌜ n + 514 ≤ 2 ^ 40 ⌝ }
     requires { ⌜ 1020 ≤ length (now table) ⌝ }
-    ensures { λ r. ⌜ NotesTransition (now (doc .entry)) owner (now (out .entry)) skip n r (now (out .exit)) (now (places .entry)) (now (rows .entry)) i found (now (table .entry)) (2 * vars) (now (enums .entry)) ⌝ }
+    ensures { λ r. ⌜ NotesTransition (now (doc .entry)) owner (now (out .entry)) skip n r (now (out .exit)) (now (places .entry)) (now (rows .entry)) (now (prints .entry)) i (now (variants .entry)) (now (table .entry)) (2 * vars) (now (enums .entry)) ⌝ }
     ensures { λ r. ⌜ r ≤ n + 514 ⌝ }
     ensures { λ _. ⌜ length (now (table .exit)) ≡ length (now (table .entry)) ⌝ }
     ensures { λ _. ⌜ take (2 * vars) (now (table .exit)) ≡ take (2 * vars) (now (table .entry)) ⌝ }
@@ -157,8 +166,9 @@ pub(crate) fn note_transition<'a>(
         doc,
         places,
         rows,
+        prints,
         i,
-        found,
+        variants,
         cause,
         names,
         k,
@@ -171,10 +181,57 @@ pub(crate) fn note_transition<'a>(
 }
 
 // The same of so many transitions.
-pub(crate) fn note_transitions<'a>(
+fn note_transitions<'a>(
     doc: &'a [u8],
     places: &'a [usize],
     rows: &'a [usize],
+    prints: &'a [u32],
+    count: u8,
+    variants: &'a [usize],
+    table: &mut [usize],
+    vars: u8,
+    enums: &'a [usize],
+    out: &mut [u32],
+    skip: usize,
+    n: usize,
+    owner: u32,
+) -> usize
+    requires { ⌜ n + 131070 ≤ 2 ^ 40 ⌝ }
+    requires { ⌜ 1020 ≤ length (now table) ⌝ }
+    ensures { λ r. ⌜ NotesTransitions (now (doc .entry)) owner (now (out .entry)) skip n r (now (out .exit)) (now (places .entry)) (now (rows .entry)) (now (prints .entry)) count (now (variants .entry)) (now (table .entry)) (2 * vars) (now (enums .entry)) ⌝ }
+    ensures { λ r. ⌜ r ≤ n + 131070 ⌝ }
+    ensures { λ _. ⌜ length (now (table .exit)) ≡ length (now (table .entry)) ⌝ }
+    ensures { λ _. ⌜ take (2 * vars) (now (table .exit)) ≡ take (2 * vars) (now (table .entry)) ⌝ }
+{
+    let mut i: u8 = 0;
+    let mut next = n;
+    while i < count {
+        next = note_transition(
+            doc,
+            places,
+            rows,
+            prints,
+            i,
+            variants,
+            table,
+            vars,
+            enums,
+            out,
+            skip,
+            next,
+            owner,
+        );
+        i += 1;
+    }
+    next
+}
+
+// The same, by the table of the State variants, which is filled here.
+pub(crate) fn note_moves<'a>(
+    doc: &'a [u8],
+    places: &'a [usize],
+    rows: &'a [usize],
+    prints: &'a [u32],
     count: u8,
     found: Found,
     table: &mut [usize],
@@ -187,29 +244,27 @@ pub(crate) fn note_transitions<'a>(
 ) -> usize
     requires { ⌜ n + 131070 ≤ 2 ^ 40 ⌝ }
     requires { ⌜ 1020 ≤ length (now table) ⌝ }
-    ensures { λ r. ⌜ NotesTransitions (now (doc .entry)) owner (now (out .entry)) skip n r (now (out .exit)) (now (places .entry)) (now (rows .entry)) count found (now (table .entry)) (2 * vars) (now (enums .entry)) ⌝ }
+    ensures { λ r. ⌜ NotesMoves (now (doc .entry)) owner (now (out .entry)) skip n r (now (out .exit)) (now (places .entry)) (now (rows .entry)) (now (prints .entry)) count found (now (table .entry)) (2 * vars) (now (enums .entry)) ⌝ }
     ensures { λ r. ⌜ r ≤ n + 131070 ⌝ }
     ensures { λ _. ⌜ length (now (table .exit)) ≡ length (now (table .entry)) ⌝ }
     ensures { λ _. ⌜ take (2 * vars) (now (table .exit)) ≡ take (2 * vars) (now (table .entry)) ⌝ }
 {
-    let mut i: u8 = 0;
-    let mut next = n;
-    while i < count {
-        next = note_transition(
-            doc,
-            places,
-            rows,
-            i,
-            found,
-            table,
-            vars,
-            enums,
-            out,
-            skip,
-            next,
-            owner,
-        );
-        i += 1;
-    }
-    next
+    let mut states = [0usize; 510];
+    let words = fill_states(doc, found, &mut states);
+    let variants = &states[0..words];
+    note_transitions(
+        doc,
+        places,
+        rows,
+        prints,
+        count,
+        variants,
+        table,
+        vars,
+        enums,
+        out,
+        skip,
+        n,
+        owner,
+    )
 }

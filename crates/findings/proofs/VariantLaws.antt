@@ -1,0 +1,218 @@
+-- The table of the State variants while it is filled, name by name; and a name looked up in it: equal names have equal prints.
+use Prim.Native.Nat.{ℕ, suc, _+_, _*_, _/_, _<_, _≤_}
+use mathlib.Core.Path.{_≡_, refl, sym, ap, ap₂, subst, _∙_}
+use mathlib.Core.List.{List, [], _∷_}
+use mathlib.Core.Bool.{Bool, true, false, not}
+use mathlib.Core.Logic.{_≢_}
+use mathlib.Core.Option.{some}
+use native.Mathlib.Omega.{arith}
+use native.Mathlib.Numerals.{add-one}
+use borrow.Author.Tests.{ltb-true, ltb-false}
+use lib.Dec.{ltb}
+use lib.ListN.{length, drop, take, getD, getElem?, set, length-set, drop-of-length-le}
+use lib.Seq.{sets, length-take-le, getD-take, getD-set-same, getD-set-other}
+use Rattle.reading.specs.Read.{pick}
+use Rattle.reading.specs.Limits.{maxList}
+use Rattle.reading.specs.Item.{readCount}
+use Rattle.reading.specs.Text.{Name, readName}
+use Rattle.reading.specs.Combine.{listOf}
+use Rattle.reading.specs.Decl.{readNames}
+use Rattle.reading.specs.Skip.{textAt}
+use Rattle.reading.specs.Views.{Rest}
+use Rattle.reading.specs.Link.{answer}
+use Rattle.reading.specs.declared.cursor.Cursor.{Cursor}
+use Rattle.reading.specs.declared.fault.Fault.{Fault}
+use Rattle.reading.specs.declared.item.Answer.{Answer}
+use Rattle.reading.specs.declared.item.Answer.the-variants.{Got, Refused}
+use Rattle.reading.proofs.Rules.{no, by}
+use Rattle.reading.proofs.Answers.{num, out}
+use Rattle.reading.proofs.ExprLaws.{name-laws}
+use Rattle.reading.proofs.ListViews.{list-at, rest-all, turn}
+use Rattle.reading.proofs.Walks.{name-text}
+use Rattle.typing.specs.Names.{eqName, member}
+use Rattle.typing.specs.Table.{Past}
+use Rattle.typing.specs.declared.table.Found.{Found}
+use Rattle.typing.specs.declared.table.Found.the-variants.{At, Nothing}
+use Rattle.typing.proofs.EnvLaws.{after-is}
+use Rattle.typing.proofs.NameLaws.{eqName-eq}
+use Rattle.findings.specs.Finding.{note, noted}
+use Rattle.findings.specs.Noting.{Noted}
+use Rattle.findings.specs.Errors.{unknownState}
+use Rattle.findings.specs.Scene.{Reads, StatesAt, states-here, states-none}
+use Rattle.findings.specs.Prints.{print}
+use Rattle.findings.specs.Variants.{VariantAt, Variants, NamesFilled, StatesFilled, IsVariant}
+use Rattle.findings.specs.Promises.{NotesVariant}
+use Rattle.findings.proofs.PlaceLaws.{entry-at, entry-below, drop-entry}
+use Rattle.findings.proofs.NoteLaws.{note-as}
+use Rattle.findings.proofs.PairTests.{isn't}
+
+-- the words of number j, and those before them
+module _ (p : List ℕ) (j : ℕ) (h : 2 * j + 1 < length p) (a b : ℕ) where
+  put-print : getD (sets p (2 * j) (a ∷ b ∷ [])) (2 * j) 0 ≡ a
+  put-print =
+      let x : 2 * j ≢ suc (2 * j) = λ q. omega arith in
+      getD-set-other (set p (2 * j) a) (suc (2 * j)) (2 * j) b 0 x ∙ getD-set-same p (2 * j) a 0 (omega arith)
+
+  put-place : getD (sets p (2 * j) (a ∷ b ∷ [])) (2 * j + 1) 0 ≡ b
+  put-place =
+      let z : 2 * j + 1 ≡ suc (2 * j) = omega arith in
+      rw z (getD-set-same (set p (2 * j) a) (suc (2 * j)) b 0 (omega (arith, length-set p (2 * j) a)))
+
+  put-before : (k : ℕ) → k < 2 * j → getD (sets p (2 * j) (a ∷ b ∷ [])) k 0 ≡ getD p k 0
+  put-before k l =
+      let x : k ≢ suc (2 * j) = λ q. omega arith in
+      let y : k ≢ 2 * j = λ q. omega arith in
+      getD-set-other (set p (2 * j) a) (suc (2 * j)) k b 0 x ∙ getD-set-other p (2 * j) k a 0 y
+
+pub put-variant : (s table : List ℕ) (at j : ℕ) {p : ℕ} {x : List ℕ} → p ≡ print 0 x → x ≡ textAt s at → set (set table (2 * j) p) (2 * j + 1) at ≡ sets table (2 * j) (print 0 (textAt s at) ∷ at ∷ [])
+put-variant s table at j e q = rw (e, q, add-one)
+
+module _ (s : List ℕ) (at : ℕ) where
+  -- the names before number j have their words; name number j stands at k
+  pub record Listing (vs : List Name) (many k j : ℕ) (table : List ℕ) : Type 0 where
+    pub end : ℕ
+    pub as-many : many ≡ length vs
+    pub rest : Rest readName s k j vs end
+    pub before : (i : ℕ) (v : Name) → i < j → getElem? vs i ≡ some v → VariantAt s table i v
+
+  pub record VariantsSoFar (many k j : ℕ) (table : List ℕ) : Type 0 where
+    pub of : (vs : List Name) → Reads (listOf maxList readName) s at vs → Listing vs many k j table
+
+  module _ {a : Answer} (e : a ≡ answer (readCount maxList s at)) (table : List ℕ) where
+    pub names-refused : {t : Fault} {p : ℕ} → a ≡ Refused t p → NamesFilled s at 0 table
+    names-refused q = record { of = λ vs g. let l = list-at readName s maxList at vs (g .end) (g .is) in no (let x = out _ e q in let y = l .opens in cc) }
+
+    pub names-start : {many : ℕ} {c : Cursor} → a ≡ Got many c → VariantsSoFar many (c .at) 0 table
+    names-start {many} {c} q = record {
+      of = λ vs g.
+          let l = list-at readName s maxList at vs (g .end) (g .is) in
+          let x = num _ e q in
+          let y = l .opens in
+          let u : many ≡ length vs = cc in
+          let v : l .first ≡ c .at = cc in
+          record {
+            end = g .end;
+            as-many = u;
+            rest = subst (λ (k : ℕ). Rest readName s k 0 vs (g .end)) v (rest-all readName s l);
+            before = λ i w h. absurd (omega arith);
+          };
+    }
+
+  module _ {many k j : ℕ} {table : List ℕ} (w : VariantsSoFar many k j table) where
+    pub names-more : {k′ : ℕ} {table′ : List ℕ} → j < many → many ≤ 255 → 510 ≤ length table → table′ ≡ sets table (2 * j) (print 0 (textAt s k) ∷ k ∷ []) → Past s k k′ → VariantsSoFar many k′ (j + 1) table′
+    names-more {k′} {table′} b few room e t = record { of = λ vs g. go vs (w .of vs g) }
+      where
+        go : (vs : List Name) → Listing vs many k j table → Listing vs many k′ (j + 1) table′
+        go vs v =
+            let m = v .as-many in
+            let u = turn readName s (omega arith) (v .rest) in
+            record {
+              end = v .end;
+              as-many = v .as-many;
+              rest = subst (λ (x : ℕ). Rest readName s x (j + 1) vs (v .end)) (sym (t .is ∙ after-is name-laws s (t .each) k (u .entry) (u .end) (u .here))) (u .next);
+              before = λ i x l f. by (ltb i j) (λ q. earlier i x (ltb-true i j q) f) (λ q. let y = ltb-false i j q in here i x (omega arith) f);
+            }
+          where
+            bound : 2 * j + 1 < length table
+            bound = omega arith
+
+            here : (i : ℕ) (x : Name) → i ≡ j → getElem? vs i ≡ some x → VariantAt s table′ i x
+            here i x q f =
+                let m = v .as-many in
+                let u = turn readName s (omega arith) (v .rest) in
+                let d = drop-entry vs j x (rw q at f) in
+                let z = u .split in
+                let y : u .entry ≡ x = cc in
+                let n = name-text s k (u .entry) (u .end) (u .here) ∙ y in
+                rw q (record {
+                  print-is = ap (λ (r : List ℕ). getD r (2 * j) 0) e ∙ put-print table j bound _ _ ∙ ap (print 0) n;
+                  name-is = ap (λ (r : List ℕ). textAt s (getD r (2 * j + 1) 0)) e ∙ ap (textAt s) (put-place table j bound _ _) ∙ n;
+                })
+
+            earlier : (i : ℕ) (x : Name) → i < j → getElem? vs i ≡ some x → VariantAt s table′ i x
+            earlier i x l f =
+                let y = v .before i x l f in
+                record {
+                  print-is = ap (λ (r : List ℕ). getD r (2 * i) 0) e ∙ put-before table j bound _ _ (2 * i) (omega arith) ∙ y .print-is;
+                  name-is = ap (λ (r : List ℕ). textAt s (getD r (2 * i + 1) 0)) e ∙ ap (textAt s) (put-before table j bound _ _ (2 * i + 1) (omega arith)) ∙ y .name-is;
+                }
+
+    pub names-done : {words : ℕ} → many ≤ j → many ≤ 255 → 510 ≤ length table → words ≡ 2 * many → NamesFilled s at words table
+    names-done {words} b few room e = record {
+      of = λ vs g.
+          let v = w .of vs g in
+          let m = v .as-many in
+          record {
+            room = length-take-le words table (omega arith) ∙ e ∙ ap (λ (x : ℕ). 2 * x) m;
+            at = λ i x f.
+                let l = entry-below vs i x f in
+                let y = v .before i x (omega arith) f in
+                record {
+                  print-is = getD-take words table (2 * i) 0 (omega arith) ∙ y .print-is;
+                  name-is = ap (textAt s) (getD-take words table (2 * i + 1) 0 (omega arith)) ∙ y .name-is;
+                };
+          };
+    }
+
+-- the State variants
+module _ (s : List ℕ) {found : Found} (table : List ℕ) where
+  pub states-unfilled : found ≡ Nothing → StatesFilled s found 0 table
+  states-unfilled q = record { of = λ vs g. go q g }
+    where
+      go : {f : Found} {vs : List Name} → f ≡ Nothing → StatesAt s f vs → Variants s (take 0 table) vs
+      go q (states-here g) = no (cc)
+      go q states-none = record { room = refl; at = λ j v e. no (cc) }
+
+  pub states-filled : {at words : ℕ} → found ≡ At at → NamesFilled s at words table → StatesFilled s found words table
+  unfolding readNames
+  states-filled {at} {words} q p = record { of = λ vs g. go q g }
+    where
+      go : {f : Found} {vs : List Name} → f ≡ At at → StatesAt s f vs → Variants s (take words table) vs
+      go q (states-here {k = k} {vs = vs} g) = let i : k ≡ at = cc in p .of vs (subst (λ (y : ℕ). Reads (listOf maxList readName) s y vs) i g)
+      go q states-none = no (cc)
+
+-- a name looked up: none of the names before number j is the name
+module _ (s table : List ℕ) (at p : ℕ) where
+  pub record Looking (j : ℕ) : Type 0 where
+    pub of : (vs : List Name) (w : Name) → Variants s table vs → textAt s at ≡ w → p ≡ print 0 w → member w (drop j vs) ≡ member w vs
+
+  pub look-start : Looking 0
+  look-start = record { of = λ vs w g t e. refl }
+
+  member-here : (w v : Name) (vs ys : List Name) (b : Bool) → ys ≡ v ∷ vs → b ≡ eqName v w → member w ys ≡ pick b true (member w vs)
+  unfolding member
+  member-here w v vs ys b e q = ap (member w) e ∙ ap (λ (x : Bool). pick x true (member w vs)) (sym q)
+
+  module _ {j many : ℕ} (l : Looking j) (m : many ≡ length table / 2) where
+    turned : (vs : List Name) (w : Name) → j < many → (g : Variants s table vs) → textAt s at ≡ w → p ≡ print 0 w → (b : Bool) → ((v : Name) → VariantAt s table j v → b ≡ eqName v w) → pick b true (member w (drop (j + 1) vs)) ≡ member w vs
+    turned vs w h g t e b d =
+        let r = g .room in
+        let v = entry-at vs j (omega arith) in
+        sym (member-here w (v .item) (drop (j + 1) vs) (drop j vs) b (drop-entry vs j (v .item) (v .is)) (d (v .item) (g .at j (v .item) (v .is)))) ∙ l .of vs w g t e
+
+    pub look-skip : j < many → (getD table (2 * j) 0 ≡ p → ⊥) → Looking (j + 1)
+    unfolding pick
+    look-skip h d = record { of = λ vs w g t e. turned vs w h g t e false (λ v x. isn't (eqName v w) (λ y. d (x .print-is ∙ ap (print 0) (eqName-eq v w y) ∙ sym e))) }
+
+    module _ {b : Bool} (h : j < many) (q : b ≡ eqName (textAt s (getD table (2 * j + 1) 0)) (textAt s at)) where
+      pub look-other : b ≡ false → Looking (j + 1)
+      unfolding pick
+      look-other z = record { of = λ vs w g t e. turned vs w h g t e false (λ v x. sym z ∙ q ∙ ap₂ eqName (x .name-is) t) }
+
+      pub look-found : b ≡ true → IsVariant s table at p true
+      unfolding pick
+      look-found z = record { of = λ vs w g t e. turned vs w h g t e true (λ v x. sym z ∙ q ∙ ap₂ eqName (x .name-is) t) }
+
+    pub look-done : many ≤ j → IsVariant s table at p false
+    unfolding member
+    look-done h = record {
+      of = λ vs w g t e.
+          let r = g .room in
+          sym (ap (member w) (drop-of-length-le vs {i = j} (omega arith))) ∙ l .of vs w g t e;
+    }
+
+pub variant-noted : (s variants : List ℕ) (at p owner : ℕ) {o o′ : List ℕ} {skip n r site first : ℕ} {b : Bool} → IsVariant s variants at p b → Noted owner o skip n (noted (not b) (note site first 0 0)) r o′ → NotesVariant s owner o skip n r o′ variants at p site first
+unfolding unknownState
+variant-noted s variants at p owner {site = site} {first = first} i x = record {
+  of = λ vs w g t e. note-as owner _ (ap (λ (z : Bool). noted (not z) (note site first 0 0)) (i .of vs w g t e)) x;
+}

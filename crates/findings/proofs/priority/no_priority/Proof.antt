@@ -1,8 +1,0 @@
--- By which are null.
-use borrow.Author.Needs.{needs}
-use Rattle.findings.proofs.PriorityLaws.{bare-first, bare-given}
-use Rattle.findings.proofs.priority.no_priority.Statement.{statement}
-use Rattle.findings.proofs.priority.no_priority.Tie as tie
-
-pub no-priority-spec : {M : Type 1} → statement M
-no-priority-spec = tie.close (tie.spec (λ c κs. search needs) (λ c κs. search needs) (λ c. search bare-first) (λ c. search bare-given))

@@ -1,0 +1,103 @@
+// The table of the State variants, two words each: the print of a name and its place. A name is looked up by its print, and by its bytes
+// only where the prints are equal.
+use crate::prints::print_bytes;
+use crate::sheet::emit_if;
+use reading::Answer;
+use reading::Cursor;
+use reading::text_at;
+use typing::Found;
+use typing::after;
+use typing::same_name;
+ghost use mathlib.Core.Path.{_≡_};
+ghost use mathlib.Core.List.{[], _∷_};
+ghost use Prim.Native.Nat.{_+_, _*_, _≤_, _^_};
+ghost use lib.ListN.{length};
+ghost use lib.Seq.{sets};
+ghost use Rattle.reading.specs.Skip.{textAt};
+ghost use Rattle.findings.specs.Prints.{print};
+ghost use Rattle.findings.specs.Variants.{IsVariant, NamesFilled, StatesFilled};
+ghost use Rattle.findings.specs.Promises.{NotesVariant};
+
+// Puts the two words of the name at a place, number j of its list.
+fn fill_variant(doc: &[u8], at: usize, j: u64, variants: &mut [usize])
+    requires { ⌜ j ≤ 254 ⌝ }
+    requires { ⌜ 510 ≤ length (now variants) ⌝ }
+    ensures { λ _. ⌜ now (variants .exit) ≡ sets (now (variants .entry)) (2 * j) (print 0 (textAt (now (doc .entry)) at) ∷ at ∷ []) ⌝ }
+{
+    let p = print_bytes(text_at(doc, at), 0);
+    let w = 2 * (j as usize);
+    variants[w] = p as usize;
+    variants[w + 1] = at;
+}
+
+// Fills the table of the names of the list at a place; how many words it takes.
+fn fill_variants(doc: &[u8], at: usize, variants: &mut [usize]) -> usize
+    requires { ⌜ 510 ≤ length (now variants) ⌝ }
+    ensures { λ r. ⌜ NamesFilled (now (doc .entry)) at r (now (variants .exit)) ⌝ }
+    ensures { λ r. ⌜ r ≤ 510 ⌝ }
+{
+    let c = Cursor { at };
+    let a = c.count(doc, 255);
+    let Answer::Got(many, first) = a else {
+        return 0;
+    };
+    let mut k = first.at;
+    let mut j: u64 = 0;
+    while j < many {
+        fill_variant(doc, k, j, variants);
+        k = after(doc, k);
+        j += 1;
+    }
+    2 * (many as usize)
+}
+
+// Fills the table of the State variants; how many words it takes.
+pub(crate) fn fill_states(doc: &[u8], found: Found, variants: &mut [usize]) -> usize
+    requires { ⌜ 510 ≤ length (now variants) ⌝ }
+    ensures { λ r. ⌜ StatesFilled (now (doc .entry)) found r (now (variants .exit)) ⌝ }
+    ensures { λ r. ⌜ r ≤ 510 ⌝ }
+{
+    let Found::At(at) = found else {
+        return 0;
+    };
+    fill_variants(doc, at, variants)
+}
+
+// Whether the name at a place, which has the print, is one of them.
+fn is_variant(doc: &[u8], variants: &[usize], at: usize, print: u32) -> bool
+    ensures { λ r. ⌜ IsVariant (now (doc .entry)) (now (variants .entry)) at print r ⌝ }
+{
+    let p = print as usize;
+    let many = variants.len() / 2;
+    let mut j: usize = 0;
+    while j < many {
+        if variants[2 * j] == p {
+            if same_name(doc, variants[2 * j + 1], at) {
+                return true;
+            }
+        }
+        j += 1;
+    }
+    false
+}
+
+// The name at a place, which has the print, where it is none of them.
+pub(crate) fn note_variant<'a>(
+    doc: &'a [u8],
+    variants: &'a [usize],
+    at: usize,
+    print: u32,
+    out: &mut [u32],
+    skip: usize,
+    n: usize,
+    owner: u32,
+    site: u32,
+    first: u32,
+) -> usize
+    requires { ⌜ n + 1 ≤ 2 ^ 40 ⌝ }
+    ensures { λ r. ⌜ NotesVariant (now (doc .entry)) owner (now (out .entry)) skip n r (now (out .exit)) (now (variants .entry)) at print site first ⌝ }
+    ensures { λ r. ⌜ r ≤ n + 1 ⌝ }
+{
+    let known = is_variant(doc, variants, at, print);
+    emit_if(!known, out, skip, n, owner, site, first, 0)
+}
