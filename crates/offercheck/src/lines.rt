@@ -127,7 +127,7 @@ fn put_line<'a>(
 fn turned(page: &[u8], end: usize) -> usize
     ensures { λ r. ⌜ r ≤ 0xc000 ⌝ }
 {
-    if 49152 < end {
+    if 16384 < end {
         print_page(page, end);
         return 0;
     }
@@ -278,31 +278,24 @@ fn print_module<'a>(
     )
 }
 
-// The lines of all findings: each turn prints at least one.
-pub(crate) fn print_findings<'a>(doc: &'a [u8], words: &'a [u32], errors: u64, warnings: u64) {
-    if 65535 < doc.len() {
-        return;
-    }
-    if 16380 < errors {
-        return;
-    }
-    if 16380 < warnings {
-        return;
-    }
+// The lines of so many findings: each turn prints at least one.
+fn print_all<'a>(doc: &'a [u8], words: &'a [u32], errors: usize, all: usize)
+    requires { ⌜ length (now doc) ≤ 0xffff ⌝ }
+    requires { ⌜ all ≤ 0xffff ⌝ }
+{
     let mut places = [0usize; 11];
     let mut rows = [0usize; 2040];
     let mut table = [0usize; 1020];
     let mut enums = [0usize; 510];
     let mut claims = [0usize; 1020];
-    let mut page = [0u8; 65536];
-    let all = errors as usize + warnings as usize;
+    let mut page = [0u8; 20480];
     let mut k: usize = 0;
     let mut turns: usize = 0;
     while turns < all {
         k = print_module(
             doc,
             words,
-            errors as usize,
+            errors,
             all,
             k,
             &mut places,
@@ -313,5 +306,22 @@ pub(crate) fn print_findings<'a>(doc: &'a [u8], words: &'a [u32], errors: u64, w
             &mut page,
         );
         turns += 1;
+    }
+}
+
+// The lines of all findings, if there are any.
+pub(crate) fn print_findings<'a>(doc: &'a [u8], words: &'a [u32], errors: u64, warnings: u64) {
+    if 65535 < doc.len() {
+        return;
+    }
+    if 16380 < errors {
+        return;
+    }
+    if 16380 < warnings {
+        return;
+    }
+    let all = errors as usize + warnings as usize;
+    if 0 < all {
+        print_all(doc, words, errors as usize, all);
     }
 }

@@ -32,11 +32,11 @@ fn check(doc: &[u8]) {
 
 // Reads what is left of standard input.
 fn drain() {
-    let mut space = [0u8; 65536];
+    let mut space = [0u8; 4096];
     let mut left: u64 = 18446744073709551615;
     while 0 < left {
         let n = io::read_full(STDIN_FILENO, &mut space);
-        if n < 65536 {
+        if n < 4096 {
             return;
         }
         left -= 1;

@@ -6,8 +6,8 @@ use lib.ListN.{length, take}
 use lib.Seq.{sets, length-sets, take-all}
 use borrow.Author.Needs.{needs}
 use Rattle.text.proofs.PutLaws.{sets-more}
-use Rattle.text.proofs.out.put_bytes.Statement.{statement}
-use Rattle.text.proofs.out.put_bytes.Tie as tie
+use Rattle.text.proofs.out.put_some.Statement.{statement}
+use Rattle.text.proofs.out.put_some.Tie as tie
 
 abbrev Inv-loop : tie.InvT-loop
 Inv-loop out₀ at part i₀ out i = (i ≤ length part) × (out ≡ sets out₀ at (take i part))
@@ -26,10 +26,10 @@ same-length c = ap length (c .before .loop .inv .1) ∙ simp length-sets
 returns : tie.Need-returns Inv-loop μ-loop
 returns c =
     let h = c .loop-test .left in
-    record { next = omega arith; bytes = c .before .loop .inv .1 ∙ simp take-all }
+    c .before .loop .inv .1 ∙ simp take-all
 
-pub put-bytes-spec : {M : Type 1} → statement M
-put-bytes-spec =
+pub put-some-spec : {M : Type 1} → statement M
+put-some-spec =
     tie.close
     (tie.spec
     Inv-loop
@@ -41,6 +41,5 @@ put-bytes-spec =
     (λ c. omega arith)
     (λ c. omega arith)
     loop-again
-    (λ c. omega arith)
     same-length
     returns)

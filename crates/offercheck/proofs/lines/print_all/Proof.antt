@@ -4,11 +4,11 @@ use mathlib.Core.Path.{_≡_, refl}
 use native.Mathlib.Omega.{arith}
 use lib.ListN.{length}
 use borrow.Author.Needs.{needs}
-use Rattle.offercheck.proofs.lines.print_findings.Statement.{statement}
-use Rattle.offercheck.proofs.lines.print_findings.Tie as tie
+use Rattle.offercheck.proofs.lines.print_all.Statement.{statement}
+use Rattle.offercheck.proofs.lines.print_all.Tie as tie
 
 abbrev Inv-loop : tie.InvT-loop
-Inv-loop doc words errors warnings places₀ rows₀ table₀ enums₀ claims₀ page₀ all k₀ turns₀ places rows table enums claims page k turns =
+Inv-loop doc words errors all places₀ rows₀ table₀ enums₀ claims₀ page₀ k₀ turns₀ places rows table enums claims page k turns =
     (k ≤ 65535)
     × (length places ≡ length places₀)
     × (length rows ≡ length rows₀)
@@ -18,18 +18,14 @@ Inv-loop doc words errors warnings places₀ rows₀ table₀ enums₀ claims₀
     × (length page ≡ length page₀)
 
 abbrev μ-loop : tie.MeasureT-loop
-μ-loop doc words errors warnings places₀ rows₀ table₀ enums₀ claims₀ page₀ all k₀ turns₀ places rows table enums claims page k turns = all - turns
+μ-loop doc words errors all places₀ rows₀ table₀ enums₀ claims₀ page₀ k₀ turns₀ places rows table enums claims page k turns = all - turns
 
-pub print-findings-spec : {M : Type 1} → statement M
-print-findings-spec =
+pub print-all-spec : {M : Type 1} → statement M
+print-all-spec =
     tie.close
     (tie.spec
     Inv-loop
     μ-loop
-    (λ c. search needs)
-    (λ c. search needs)
-    (λ c. search needs)
-    (λ c. omega arith)
     (λ c. (omega arith, refl, refl, refl, refl, refl, refl))
     (λ c. search needs)
     (λ c. search needs)
