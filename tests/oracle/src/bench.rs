@@ -8,9 +8,9 @@ use crate::encode::encode;
 use crate::generate::build::ir;
 use crate::lang::ir::Ir;
 use crate::messages::{alike, output, run as run_program};
-use crate::offer::{Finder, Reader};
+use crate::offer::{Finder, Reader, Teller};
 use crate::original::findings;
-use crate::samples::{every_pair, growing, samples, Sample};
+use crate::samples::{every_pair, faulty, growing, samples, Sample};
 use std::cell::RefCell;
 use std::fs;
 use std::hint::black_box;
@@ -29,7 +29,7 @@ const LENT: usize = 16_380;
 /// One batch of calls takes about this long.
 const BATCH_NANOSECONDS: f64 = 500_000.0;
 
-pub fn bench(read: Reader, find: Finder) {
+pub fn bench(read: Reader, find: Finder, tell: Teller) {
     for sample in samples() {
         assert_eq!(answer(&decode(&sample.bytes)), (0, 0));
         assert_eq!(read(&sample.bytes), (0, 0));
@@ -44,6 +44,10 @@ pub fn bench(read: Reader, find: Finder) {
     }
     for sample in samples() {
         findings_line(find, &sample, ROUNDS);
+    }
+    println!("all messages, one by one:");
+    for sample in samples() {
+        messages_line(find, tell, &sample);
     }
     println!("one module of so many transitions:");
     for sample in growing() {
@@ -67,6 +71,29 @@ fn findings_line(find: Finder, sample: &Sample, rounds: usize) {
     };
     let its = "Rust decode and check";
     line_of(rounds, sample, "offer_findings", ours, its, rust);
+}
+
+/// Every message of a document by its number, beside the original's check,
+/// which makes them all.
+fn messages_line(find: Finder, tell: Teller, sample: &Sample) {
+    let doc = &sample.bytes[..];
+    let (number, counts) = find(doc, &mut [0; LENT]);
+    assert_eq!(number, 0);
+    if counts == [0, 0] {
+        return;
+    }
+    let text = RefCell::new(vec![0; 4096]);
+    let ours = || {
+        for k in 0..counts[0] + counts[1] {
+            black_box(tell(black_box(doc), k, &mut text.borrow_mut()));
+        }
+    };
+    let rust = || {
+        let decoded = decode(black_box(doc)).ok();
+        black_box(decoded.map(|ir| findings(&ir)));
+    };
+    let our = format!("{} calls of offer_message", counts[0] + counts[1]);
+    line(sample, &our, ours, "Rust decode and check", rust);
 }
 
 fn line(sample: &Sample, our: &str, ours: impl Fn(), its: &str, rust: impl Fn()) {
@@ -206,37 +233,40 @@ fn run(program: &Path, dir: &Path, mode: &str, times: u32) -> Result<f64, String
 
 const PROGRAM_ROUNDS: usize = 101;
 
-/// Two programs on each document through pipes, in turn, from start to end:
-/// the smallest document, the samples, and one with nearly as many findings as
-/// the words hold.
-pub fn programs(ours: &Path, rust: &Path) -> Result<(), String> {
+/// Two programs on each document through pipes, in turn, from start to end, and
+/// one that does nothing: the smallest document, the samples, one with several
+/// errors in each transition, and one with nearly as many findings as the words
+/// hold.
+pub fn programs(ours: &Path, rust: &Path, nothing: &Path) -> Result<(), String> {
     let sample = |name, ir: Ir| Sample {
         name,
         bytes: encode(&ir),
     };
     let mut all = vec![sample("empty", ir(Vec::new()))];
     all.extend(samples());
+    all.push(sample("faulty", faulty()));
     all.push(sample("found", alike(81)));
     for sample in all {
         let due = output(&sample.bytes);
-        let mut times = [Vec::new(), Vec::new()];
+        let mut times = [Vec::new(), Vec::new(), Vec::new()];
         for _ in 0..PROGRAM_ROUNDS {
-            for (path, times) in [ours, rust].into_iter().zip(&mut times) {
+            for (path, times) in [ours, rust, nothing].into_iter().zip(&mut times) {
                 let start = Instant::now();
                 let given = run_program(path, &sample.bytes)?;
                 times.push(start.elapsed().as_nanos() as f64);
-                if given != due {
+                if path != nothing && given != due {
                     return Err(format!("{} prints something else", path.display()));
                 }
             }
         }
-        let [ours, rust] = times.map(median);
+        let [ours, rust, nothing] = times.map(median);
         println!(
-            "{:<6} {:>6} bytes, {:>6} printed: program {ours:>9.0} ns, over the Rust {rust:>9.0} ns, Rust/ours {:.2}",
+            "{:<6} {:>6} bytes, {:>6} printed: program {ours:>9.0} ns, over the Rust {rust:>9.0} ns, a program that does nothing {nothing:>7.0} ns, Rust/ours {:.2}, less the start {:.2}",
             sample.name,
             sample.bytes.len(),
             due.len(),
-            rust / ours
+            rust / ours,
+            (rust - nothing) / (ours - nothing)
         );
     }
     Ok(())

@@ -61,8 +61,9 @@ const USAGE: &str = "usage:
   oracle sweep              the same on every small change of small documents
   oracle bench              time of the library beside the decoder
   oracle typing PROGRAM DIR time of typing beside reading, by the replay's program
-  oracle programs PATH OTHER
-                            time of a program beside another, from start to end
+  oracle programs PATH OTHER NOTHING
+                            time of a program beside another and beside one that
+                            does nothing, from start to end
   oracle write DIR          write the benchmark documents
   oracle table [N [SEED]]   what the original finds on N planted documents";
 
@@ -104,9 +105,11 @@ fn main() -> ExitCode {
         ["told", count] => number(count).and_then(|n| told(n, 1)),
         ["told", count, seed] => number(count).and_then(|n| told(n, number(seed)?)),
         ["sweep"] => sweep(),
-        ["bench"] => library().and_then(|read| Ok(bench::bench(read, finder()?))),
+        ["bench"] => library().and_then(|read| Ok(bench::bench(read, finder()?, teller()?))),
         ["typing", program, dir] => bench::typing(Path::new(program), Path::new(dir)),
-        ["programs", path, other] => bench::programs(Path::new(path), Path::new(other)),
+        ["programs", path, other, nothing] => {
+            bench::programs(Path::new(path), Path::new(other), Path::new(nothing))
+        }
         ["write", dir] => write_samples(Path::new(dir)),
         ["table"] => table(20_000, 1),
         ["table", count] => number(count).and_then(|n| table(n, 1)),
@@ -147,12 +150,16 @@ fn finder() -> Result<offer::Finder, String> {
     offer::FINDER.ok_or(NO_LIBRARY.to_string())
 }
 
+fn teller() -> Result<offer::Teller, String> {
+    offer::TELLER.ok_or(NO_LIBRARY.to_string())
+}
+
 fn found(count: usize, seed: u64) -> Done {
     agreed(found::compare(finder()?, count, seed))
 }
 
 fn told(count: usize, seed: u64) -> Done {
-    let tell = offer::TELLER.ok_or(NO_LIBRARY.to_string())?;
+    let tell = teller()?;
     agreed(told::compare(tell, count, seed))
 }
 

@@ -71,6 +71,17 @@ pub fn growing() -> Vec<Sample> {
     sizes.map(sample).to_vec()
 }
 
+/// One module of the mixed kind in which no name of its transitions is
+/// declared: each has several errors.
+pub fn faulty() -> Ir {
+    ir(vec![Module {
+        events: Vec::new(),
+        outputs: Vec::new(),
+        vars: Vec::new(),
+        ..mixed("Link", 255, 3)
+    }])
+}
+
 /// 16 modules of 255 transitions with one state and one pattern: each pair of
 /// a module is found, 518,160 in all.
 pub fn every_pair() -> Sample {
