@@ -4,13 +4,13 @@ use mathlib.Core.Path.{_≡_, refl, sym, _∙_}
 use mathlib.Core.List.{List}
 use mathlib.Core.Bool.{Bool, true, false}
 use native.Mathlib.Omega.{arith}
-use lib.ListN.{length, getD}
+use lib.ListN.{length, getD, take, drop}
 use borrow.Author.Tests.{ltb-true, ltb-false, lt-ltb, le-ltb, lt-leb, le-leb, eq-eqb, ne-eqb}
 use Rattle.reading.specs.Read.{ok, pick, mapR}
 use Rattle.reading.specs.Head.{readHead, headWith}
 use Rattle.reading.specs.Limits.{maxText}
 use Rattle.reading.specs.Item.{readKind, readTag}
-use Rattle.reading.specs.Text.{textBytes, readText, readName}
+use Rattle.reading.specs.Text.{all, nameByte, textBytes, readText, readName}
 use Rattle.reading.specs.Link.{answer, taggedOf, alphabetOf}
 use Rattle.reading.specs.Short.{oneByte, nameHead, tagHead}
 use Rattle.reading.specs.declared.fault.Fault.the-variants.{Truncated}
@@ -20,6 +20,7 @@ use Rattle.reading.specs.declared.item.Tagged.the-variants as tagged
 use Rattle.reading.specs.declared.text.Text.the-variants.{Name}
 use Rattle.reading.proofs.Rules.{no, pick-true, pick-false, bind-ok, bind-out}
 use Rattle.reading.proofs.Answers.{answer-ok, answer-out, tagged-ok}
+use Rattle.reading.proofs.Strings.{text-done}
 
 -- a test that passed is none of those that would have failed it
 unless : (b c : Bool) → pick b false c ≡ true → (b ≡ false) × (c ≡ true)
@@ -98,8 +99,8 @@ two-bytes-are b case e =
     }
 
 module _ (s : List ℕ) (at : ℕ) {r : Bool} (q : r ≡ true) where
-  -- a name whose head is one byte
-  pub name-short : at < length s → r ≡ nameHead (getD s at 0) → {x : Answer} → x ≡ answer (mapR length (textBytes (alphabetOf Name) s at (getD s at 0 % 32) (at + 1))) → x ≡ answer (mapR length (readName s at))
+  -- a string whose head is that of a name, in one byte
+  name-short : at < length s → r ≡ nameHead (getD s at 0) → {x : Answer} → x ≡ answer (mapR length (textBytes (alphabetOf Name) s at (getD s at 0 % 32) (at + 1))) → x ≡ answer (mapR length (readName s at))
   unfolding nameHead readName readText alphabetOf
   name-short h e z =
       let u = unless _ _ (sym e ∙ q) in
@@ -109,6 +110,11 @@ module _ (s : List ℕ) (at : ℕ) {r : Bool} (q : r ≡ true) where
       let some : 1 ≤ getD s at 0 % 32 = omega arith in
       let few : getD s at 0 % 32 ≤ maxText = omega arith in
       z ∙ sym (rw (kind-one s 3 at h one, bind-ok, le-ltb (getD s at 0 % 32) 1 some, pick-false, le-ltb maxText (getD s at 0 % 32) few, pick-false))
+
+  -- a name whose head is one byte, with its bytes
+  pub name-read : {a : Bool} → at < length s → r ≡ nameHead (getD s at 0) → getD s at 0 % 32 < length s - at → a ≡ all nameByte (take (at + 1 + getD s at 0 % 32 - (at + 1)) (drop (at + 1) s)) → a ≡ true → Got (getD s at 0 % 32) (record { at = at + 1 + getD s at 0 % 32 }) ≡ answer (mapR length (readName s at))
+  unfolding alphabetOf
+  name-read h e l p y = name-short h e (text-done nameByte s at (getD s at 0 % 32) (at + 1) (omega arith) p y)
 
   -- the head of a data enum in two bytes
   pub tag-short : 1 < length s - at → r ≡ tagHead (getD s at 0) (getD s (at + 1) 0) → tagged.Case (record { start = at; count = getD s at 0 % 32; case = getD s (at + 1) 0; place = at + 1 }) (record { at = at + 2 }) ≡ taggedOf (readTag s at)

@@ -88,7 +88,8 @@ impl Cursor {
         if one_byte(b, due) {
             return Answer::Got((b % 32) as u64, Cursor { at: at + 1 });
         }
-        self.any_kind(doc, due)
+        let whole = doc;
+        self.any_kind(whole, due)
     }
 
     // The same, by the whole head.
@@ -226,7 +227,8 @@ impl Cursor {
                 }
             }
         }
-        self.any_tag(doc)
+        let whole = doc;
+        self.any_tag(whole)
     }
 
     // The same, head by head.

@@ -120,19 +120,27 @@ fn text_bytes(doc: &[u8], text: Text, at: usize, len: usize, from: usize) -> Ans
 }
 
 impl Cursor {
-    // A name: its length, and the cursor after it. Mostly its head is one byte; `text` reads the others.
+    // A name: its length, and the cursor after it. Mostly its head is one byte and its bytes are those of a name; `text` reads the others.
     pub fn name(self, doc: &[u8]) -> Answer
         ensures { λ r. ⌜ r ≡ answer (mapR length (readName (now (doc .entry)) (self .at))) ⌝ }
     {
         let at = self.at;
-        if doc.len() <= at {
-            return self.text(doc, Text::Name);
+        let len = doc.len();
+        if at < len {
+            let b = doc[at];
+            if name_head(b) {
+                let n = (b % 32) as usize;
+                if n < len - at {
+                    let from = at + 1;
+                    let end = from + n;
+                    if all_name_bytes(&doc[from..end]) {
+                        return Answer::Got(n as u64, Cursor { at: end });
+                    }
+                }
+            }
         }
-        let b = doc[at];
-        if name_head(b) {
-            return text_bytes(doc, Text::Name, at, (b % 32) as usize, at + 1);
-        }
-        self.text(doc, Text::Name)
+        let whole = doc;
+        self.text(whole, Text::Name)
     }
 
     // A string: its length, and the cursor after it.

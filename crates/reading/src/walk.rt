@@ -199,7 +199,8 @@ pub fn text_at(doc: &[u8], at: usize) -> &[u8]
             }
         }
     }
-    any_text_at(doc, at)
+    let whole = doc;
+    any_text_at(whole, at)
 }
 
 // The same, by the whole head.

@@ -7,7 +7,7 @@ use Rattle.reading.proofs.cursor.Cursor.tag.Statement.{statement}
 use Rattle.reading.proofs.cursor.Cursor.tag.Tie as tie
 
 -- a byte fits
-cast-case : tie.Need-cast-t17
+cast-case : tie.Need-cast-t18
 cast-case c = omega (arith, c .before .before .shared-slice-known3 .given (c .before .before .before .before .before .before .before .args .self .at + 1))
 
 pub tag-spec : {M : Type 1} → statement M
