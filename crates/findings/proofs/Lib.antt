@@ -55,4 +55,5 @@ pub mod OrderLaws
 pub mod StateTurns
 pub mod DeadLaws
 pub mod ReachLaws
+pub mod LinkLaws
 pub mod UnledLaws

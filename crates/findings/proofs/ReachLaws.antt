@@ -7,19 +7,18 @@ use mathlib.Core.List.{List}
 use native.Mathlib.Omega.{arith}
 use lib.ListN.{length, getD, set, replicate, length-set, length-replicate, getD-replicate}
 use lib.Seq.{getD-set-same, getD-set-other}
-use lib.Dec.{eqb}
-use borrow.Author.Tests.{eqb-true, eqb-false}
+use lib.Dec.{eqb, ltb}
+use borrow.Author.Tests.{eqb-true, eqb-false, ltb-true, ltb-false}
 use Rattle.reading.specs.Text.{Name}
 use Rattle.reading.specs.Skip.{textAt}
+use Rattle.reading.proofs.Rules.{by}
 use Rattle.reading.proofs.Walks.{name-text}
 use Rattle.typing.specs.Names.{eqName}
-use Rattle.typing.proofs.NameLaws.{eqName-eq}
 use Rattle.reading.specs.Transition.{Transition}
 use Rattle.findings.specs.Scene.{field, RowAt}
 use Rattle.findings.specs.PairPromises.{LeadsTo, LeadsOn}
-use Rattle.findings.specs.Reaching.{Taken, free, Queued, Stepped, stays, takes, Swept, Chained, first, next, Walked, Followed, BeginsAt}
+use Rattle.findings.specs.Reaching.{Taken, free, Queued, Stepped, stays, takes, Swept, Chained, first, next, Walked, BeginsAt}
 use Rattle.findings.proofs.TouchLaws.{last-or-before}
-use Rattle.findings.proofs.PlaceLaws.{entry-at}
 
 same-or-not : (a b : ℕ) → (a ≡ b) ⊎ (a ≡ b → ⊥)
 same-or-not a b = go (eqb a b) refl
@@ -68,16 +67,6 @@ free-set m (suc n) i h l e = go (last-or-before i n (omega arith)) (free-set m n
         let b : getD m n 0 ≡ 0 = ap (λ (k : ℕ). getD m k 0) (sym p) ∙ e in
         rw (a, b) (ap suc (free-set-past m n i (omega arith)))
     go (inr p) r = rw (getD-set-other m i n 1 0 (λ q. omega arith)) (keep (eqb (getD m n 0) 0) (free (set m i 1) n) (free m n) (r p l e))
-
-free-none : (m : List ℕ) (n : ℕ) → free m n ≡ 0 → (i : ℕ) → i < n → Taken m i
-unfolding free
-free-none m zero e i h = absurd (omega arith)
-free-none m (suc n) e i h = go (eqb (getD m n 0) 0) refl e (free-none m n) (last-or-before i n (omega arith))
-  where
-    go : (b : Bool) → eqb (getD m n 0) 0 ≡ b → cond b (suc (free m n)) (free m n) ≡ 0 → (free m n ≡ 0 → (i : ℕ) → i < n → Taken m i) → (i ≡ n) ⊎ (i < n) → Taken m i
-    go true q z r p = absurd (omega arith)
-    go false q z r (inl p) = subst (Taken m) (sym p) (eqb-false (getD m n 0) 0 q)
-    go false q z r (inr p) = r z i p
 
 free-all : (n : ℕ) → n ≤ 256 → free (replicate 256 0) n ≡ n
 unfolding free
@@ -134,18 +123,15 @@ module _ (count : ℕ) (m q : List ℕ) (t i : ℕ) (g : Queued count m q t) (h 
 -- a sweep
 module _ (T : ℕ → Bool → Type 0) (count : ℕ) (m q : List ℕ) (t : ℕ) where
   pub sweep-none : Queued count m q t → Swept T count m q t 0 m q t
-  sweep-none g = record { queued = g; more = omega arith; same-queue = λ k l. refl; kept = λ j x. x; new = λ j l. absurd (omega arith); only = λ j x. inl x }
-
-  pub sweep-full : Queued count m q t → t ≡ count → Swept T count m q t count m q t
-  sweep-full g e = record { queued = g; more = omega arith; same-queue = λ k l. refl; kept = λ j x. x; new = λ j l. inl (free-none m count (omega (arith, g .balance)) j l); only = λ j x. inl x }
+  sweep-none g = record { queued = g; more = omega arith; same-queue = λ k l. refl; kept = λ j x. x; new = λ j b l. absurd (omega arith); only = λ j x. inl x }
 
   module _ (i : ℕ) {m′ q′ : List ℕ} {t′ : ℕ} (x : Swept T count m q t i m′ q′ t′) where
     stay : Taken m′ i ⊎ T i false → Swept T count m q t (i + 1) m′ q′ t′
-    stay d = record { queued = x .queued; more = x .more; same-queue = x .same-queue; kept = x .kept; new = λ j l. go j (last-or-before j i l); only = x .only }
+    stay d = record { queued = x .queued; more = x .more; same-queue = x .same-queue; kept = x .kept; new = λ j b l. go j b (last-or-before j i l); only = x .only }
       where
-        go : (j : ℕ) → (j ≡ i) ⊎ (j < i) → Taken m′ j ⊎ T j false
-        go j (inl p) = subst (λ (k : ℕ). Taken m′ k ⊎ T k false) (sym p) d
-        go j (inr p) = x .new j p
+        go : (j : ℕ) → j < count → (j ≡ i) ⊎ (j < i) → Taken m′ j ⊎ T j false
+        go j b (inl p) = subst (λ (k : ℕ). Taken m′ k ⊎ T k false) (sym p) d
+        go j b (inr p) = x .new j b p
 
     taking : i < count → getD m′ i 0 ≡ 0 → T i true → Swept T count m q t (i + 1) (set m′ i 1) (set q′ t′ i) (t′ + 1)
     taking h e y = record {
@@ -153,7 +139,7 @@ module _ (T : ℕ → Bool → Type 0) (count : ℕ) (m q : List ℕ) (t : ℕ) 
       more = let z = x .more in omega arith;
       same-queue = λ k l. let z = x .more in getD-set-other q′ t′ k i 0 (λ p. omega arith) ∙ x .same-queue k l;
       kept = λ j z. set-keeps m′ i lm j (x .kept j z);
-      new = λ j l. new-go j (last-or-before j i l);
+      new = λ j b l. new-go j b (last-or-before j i l);
       only = λ j z. only-go j (set-only m′ i lm j z);
     }
       where
@@ -164,9 +150,9 @@ module _ (T : ℕ → Bool → Type 0) (count : ℕ) (m q : List ℕ) (t : ℕ) 
         up j (inl z) = inl (set-keeps m′ i lm j z)
         up j (inr z) = inr z
 
-        new-go : (j : ℕ) → (j ≡ i) ⊎ (j < i) → Taken (set m′ i 1) j ⊎ T j false
-        new-go j (inl p) = inl (subst (Taken (set m′ i 1)) (sym p) (set-taken m′ i lm))
-        new-go j (inr p) = up j (x .new j p)
+        new-go : (j : ℕ) → j < count → (j ≡ i) ⊎ (j < i) → Taken (set m′ i 1) j ⊎ T j false
+        new-go j b (inl p) = inl (subst (Taken (set m′ i 1)) (sym p) (set-taken m′ i lm))
+        new-go j b (inr p) = up j (x .new j b p)
 
         only-go : (j : ℕ) → (j ≡ i) ⊎ Taken m′ j → Taken m j ⊎ T j true
         only-go j (inl p) = inr (subst (λ (k : ℕ). T k true) (sym p) y)
@@ -176,8 +162,12 @@ module _ (T : ℕ → Bool → Type 0) (count : ℕ) (m q : List ℕ) (t : ℕ) 
     sweep-more h (stays d a b c) = rw (a, b, c) (stay d)
     sweep-more h (takes e y a b c) = rw (a, b, c) (taking h e y)
 
-    pub sweep-all : count ≤ i → i ≤ count → Swept T count m q t count m′ q′ t′
-    sweep-all h l = let e : i ≡ count = omega arith in subst (λ (k : ℕ). Swept T count m q t k m′ q′ t′) e x
+    -- those up to k are passed
+    pub sweep-skip : (k : ℕ) → ((j : ℕ) → j < count → j < k → i ≤ j → Taken m′ j ⊎ T j false) → Swept T count m q t k m′ q′ t′
+    sweep-skip k d = record { queued = x .queued; more = x .more; same-queue = x .same-queue; kept = x .kept; new = λ j b l. by (ltb j i) (λ z. x .new j b (ltb-true j i z)) (λ z. d j b l (ltb-false j i z)); only = x .only }
+
+    pub sweep-all : count ≤ i → Swept T count m q t count m′ q′ t′
+    sweep-all h = sweep-skip count (λ j b l a. absurd (omega arith))
 
 -- the steps of the code
 module _ (T : ℕ → Bool → Type 0) (i : ℕ) (m q : List ℕ) (t : ℕ) where
@@ -205,7 +195,7 @@ module _ (T : ℕ → Bool → Type 0) (U : ℕ → ℕ → Bool → Type 0) (co
   pub following-start : {m q m′ q′ : List ℕ} {t : ℕ} → Queued count m q 0 → Swept T count m q 0 count m′ q′ t → Following m′ q′ t 0
   following-start {m} g x = record {
     queued = x .queued;
-    start = x .new;
+    start = λ j b. x .new j b b;
     done = λ k j h. absurd (omega arith);
     sound = λ j h z. go j h (x .only j z);
   }
@@ -228,7 +218,7 @@ module _ (T : ℕ → Bool → Type 0) (U : ℕ → ℕ → Bool → Type 0) (co
         up P j (inr y) = inr y
 
         done-go : (k j : ℕ) → j < count → (k ≡ head) ⊎ (k < head) → Taken m′ j ⊎ U (getD q′ k 0) j false
-        done-go k j b (inl p) = subst (λ (n : ℕ). Taken m′ j ⊎ U n j false) (sym (ap (λ (y : ℕ). getD q′ y 0) p ∙ x .same-queue head h)) (x .new j b)
+        done-go k j b (inl p) = subst (λ (n : ℕ). Taken m′ j ⊎ U n j false) (sym (ap (λ (y : ℕ). getD q′ y 0) p ∙ x .same-queue head h)) (x .new j b b)
         done-go k j b (inr p) = subst (λ (n : ℕ). Taken m′ j ⊎ U n j false) (sym (x .same-queue k (omega arith))) (up (U (getD q k 0) j false) j (w .done k j p b))
 
         sound-go : (j : ℕ) → j < count → Taken m j ⊎ U (getD q head 0) j true → Chained T U count j
@@ -244,41 +234,14 @@ module _ (T : ℕ → Bool → Type 0) (U : ℕ → ℕ → Bool → Type 0) (co
       sound = w .sound;
     }
 
--- the last one that was followed
-module _ (U : ℕ → ℕ → Bool → Type 0) (count : ℕ) where
-  pub followed-none : {m q : List ℕ} {t : ℕ} → Queued count m q t → Followed U count 255 m
-  followed-none g = record { of = λ h j l. let f = g .few in absurd (omega arith) }
-
-  pub followed-more : {p : ℕ} {m q m′ q′ : List ℕ} {t t′ : ℕ} → Swept (U p) count m q t count m′ q′ t′ → Followed U count p m′
-  followed-more x = record { of = λ h j l. x .new j l }
-
-module _ (s rows prints : List ℕ) (count p : ℕ) where
+module _ (s rows prints : List ℕ) (count p i : ℕ) where
   -- the code's answer
-  module _ (i : ℕ) (m q : List ℕ) (t : ℕ) {b : Bool} (y : LeadsTo s rows prints p i b) where
-    leads-all : LeadsOn s rows prints count p i b
-    leads-all = record { of = λ ts R P c t u g h. y .of t u (R .at p t g) (R .at i u h) (P .at p t g) (P .at i u h) }
+  pub leads-on : {b : Bool} → LeadsTo s rows prints p i b → LeadsOn s rows prints count p i b
+  leads-on y = record { of = λ ts R P c t u g h. y .of t u (R .at p t g) (R .at i u h) (P .at p t g) (P .at i u h) }
 
+  module _ (m q : List ℕ) (t : ℕ) {b : Bool} (y : LeadsTo s rows prints p i b) where
     pub lead-no : b ≡ false → Stepped (LeadsOn s rows prints count p) i m q t m q t
-    lead-no = step-no (LeadsOn s rows prints count p) i m q t leads-all
+    lead-no = step-no (LeadsOn s rows prints count p) i m q t (leads-on y)
 
     pub lead-yes : {m′ q′ : List ℕ} {t′ : ℕ} → b ≡ true → getD m i 0 ≡ 0 → m′ ≡ set m i 1 → q′ ≡ set q t i → t′ ≡ t + 1 → Stepped (LeadsOn s rows prints count p) i m q t m′ q′ t′
-    lead-yes = step-yes (LeadsOn s rows prints count p) i m q t leads-all
-
-  next-text : (k : ℕ) (t : Transition) → RowAt s rows k t → textAt s (field rows k 4) ≡ t .next-state
-  next-text k t a = name-text s (field rows k 4) (t .next-state) (field rows k 5) (a .next-state-is)
-
-  module _ {last : ℕ} {b : Bool} (e : b ≡ eqName (textAt s (field rows last 4)) (textAt s (field rows p 4))) (h : b ≡ true) (l : last < count) where
-    leads-same : (j : ℕ) → LeadsOn s rows prints count last j false → LeadsOn s rows prints count p j false
-    leads-same j y = record {
-      of = λ ts R P c t u f g.
-          let v = entry-at ts last (omega arith) in
-          let z : v .item .next-state ≡ t .next-state = sym (next-text last (v .item) (R .at last (v .item) (v .is))) ∙ eqName-eq _ _ (sym e ∙ h) ∙ next-text p t (R .at p t f) in
-          y .of ts R P c (v .item) u (v .is) g ∙ ap (λ (n : Name). eqName n (u .state)) z;
-    }
-
-    pub sweep-same : {m q : List ℕ} {t : ℕ} → Queued count m q t → Followed (LeadsOn s rows prints count) count last m → Swept (LeadsOn s rows prints count p) count m q t count m q t
-    sweep-same {m} g w = record { queued = g; more = omega arith; same-queue = λ k d. refl; kept = λ j x. x; new = λ j d. go j (w .of l j d); only = λ j x. inl x }
-      where
-        go : (j : ℕ) → Taken m j ⊎ LeadsOn s rows prints count last j false → Taken m j ⊎ LeadsOn s rows prints count p j false
-        go j (inl z) = inl z
-        go j (inr y) = inr (leads-same j y)
+    lead-yes = step-yes (LeadsOn s rows prints count p) i m q t (leads-on y)

@@ -33,12 +33,16 @@ use Rattle.typing.specs.declared.table.Found.{Found}
 use Rattle.typing.specs.declared.table.Found.the-variants.{At, Nothing}
 use Rattle.typing.proofs.EnvLaws.{after-is, fields-head}
 use Rattle.typing.proofs.FirstLaws.{found-no, found-yes}
+use Rattle.typing.proofs.NameLaws.{eqName-eq}
 use Rattle.findings.specs.Lists.{each}
 use Rattle.findings.specs.Scene.{Reads, field, Rows}
-use Rattle.findings.specs.Uses.{variantNames, isBare, patternNames, patternBare, namedBy, bareBy, NamesAt, VariantsAt, variants-here, variants-none, AddsVariant, AddsUse, UsesOf, IsNamed, HasVariant, IsUsed}
+use Rattle.findings.specs.Prints.{print}
+use Rattle.findings.specs.Classes.{Tabled}
+use Rattle.findings.specs.Uses.{variantNames, isBare, patternNames, patternBare, namedBy, bareBy, NamesAt, VariantsAt, variants-here, variants-none, AddsVariant, AddsUse, GroupPrint, UsesOf, IsNamed, HasVariant, IsUsed}
 use Rattle.findings.specs.declared.uses.Uses.{Uses}
 use Rattle.findings.proofs.EachLaws.{get-some, drop-get}
 use Rattle.findings.proofs.OptionLaws.{not-given, is-given}
+use Rattle.findings.proofs.PairTests.{isn't}
 
 -- a name more, whose place goes to the next word
 get-append : {A : Type 0} (xs : List A) (y : A) (k : ℕ) (x : A) → getElem? (xs ++ (y ∷ [])) k ≡ some x → ((k ≡ length xs) × (y ≡ x)) ⊎ ((k < length xs) × (getElem? xs k ≡ some x))
@@ -130,6 +134,19 @@ module _ (s : List ℕ) (at : ℕ) (g : Name) (table : List ℕ) (u : Uses) {nam
           let j : variant ≡ v .variant = o .is ∙ ap (afterItem s) i ∙ after-is name-laws s (o .each) (v .group) (p .group) (v .variant) (v .group-is) in
           record { end = r .end; is = rw j (v .variant-is) }
 
+pub group-print : (s rows : List ℕ) (i : ℕ) {at name : ℕ} {text : Name} {r : ℕ} → at ≡ field rows i 2 → name ≡ afterHead s at → text ≡ textAt s name → r ≡ print 0 text → GroupPrint s rows i r
+group-print s rows i e h t q = q ∙ ap (print 0) (t ∙ ap (textAt s) (h ∙ ap (afterHead s) e))
+
+pub print-of : (s rows marks : List ℕ) (count i : ℕ) → Tabled (GroupPrint s rows) count marks → i < count → GroupPrint s rows i (getD marks i 0)
+print-of s rows marks count i m h = m .each i h
+
+-- another print tells another group
+pub use-apart : (s rows : List ℕ) (i : ℕ) (g : Name) (table : List ℕ) (u : Uses) {x mark : ℕ} → GroupPrint s rows i x → mark ≡ print 0 g → (x ≡ mark → ⊥) → AddsUse s (field rows i 2) g table u table u
+use-apart s rows i g table u p e d = use-other s (field rows i 2) g table u refl refl refl (sym (isn't _ (λ y. d (p ∙ ap (print 0) (eqName-eq _ g y) ∙ sym e))))
+
+pub use-at : {s : List ℕ} (rows : List ℕ) (i : ℕ) {at : ℕ} {g : Name} {table : List ℕ} {u : Uses} {table′ : List ℕ} {u′ : Uses} → at ≡ field rows i 2 → AddsUse s at g table u table′ u′ → AddsUse s (field rows i 2) g table u table′ u′
+use-at rows i e a = rw e at a
+
 -- the patterns from number i on are still to be added
 module _ (s rows : List ℕ) (count : ℕ) (g : Name) where
   pub record UsesLeft (table : List ℕ) (i : ℕ) (u : Uses) : Type 0 where
@@ -149,8 +166,8 @@ module _ (s rows : List ℕ) (count : ℕ) (g : Name) where
   or-or false b c = refl
 
   module _ (table : List ℕ) (i : ℕ) (u : Uses) (l : UsesLeft table i u) where
-    pub uses-more : {at : ℕ} {table′ : List ℕ} {u′ : Uses} → i < count → at ≡ field rows i 2 → AddsUse s at g table u table′ u′ → UsesLeft table′ (i + 1) u′
-    uses-more {at} {table′} {u′} h e a = record {
+    pub uses-more : {table′ : List ℕ} {u′ : Uses} → i < count → AddsUse s (field rows i 2) g table u table′ u′ → UsesLeft table′ (i + 1) u′
+    uses-more {table′} {u′} h a = record {
       few = let x = a .few in let y = l .few in omega arith;
       names = λ ts w q.
           let t = get-some ts i (omega arith) in
@@ -165,8 +182,8 @@ module _ (s rows : List ℕ) (count : ℕ) (g : Name) where
           ap (λ (b : Bool). b || bareBy g (drop (i + 1) ts)) (a .bare p (here ts w t)) ∙ or-or (u .bare) (patternBare g p) (bareBy g (drop (i + 1) ts)) ∙ ap (λ (x : List Transition). u .bare || bareBy g x) (sym d) ∙ l .bare ts w q;
     }
       where
-        here : (ts : List Transition) → Rows s rows ts → (t : (x : Transition) × (getElem? ts i ≡ some x)) → Reads readPattern s at (t .0 .pattern)
-        here ts w t = record { end = field rows i 3; is = rw e (w .at i (t .0) (t .1) .pattern-is) }
+        here : (ts : List Transition) → Rows s rows ts → (t : (x : Transition) × (getElem? ts i ≡ some x)) → Reads readPattern s (field rows i 2) (t .0 .pattern)
+        here ts w t = record { end = field rows i 3; is = w .at i (t .0) (t .1) .pattern-is }
 
     pub uses-done : count ≤ i → UsesOf s rows count g table u
     uses-done h = record {

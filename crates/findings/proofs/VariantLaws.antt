@@ -1,5 +1,5 @@
 -- The table of the State variants while it is filled, name by name; and a name looked up in it: equal names have equal prints.
-use Prim.Native.Nat.{ℕ, suc, _+_, _*_, _/_, _<_, _≤_}
+use Prim.Native.Nat.{ℕ, zero, suc, _+_, _*_, _/_, _<_, _≤_}
 use mathlib.Core.Path.{_≡_, refl, sym, ap, ap₂, subst, _∙_}
 use mathlib.Core.List.{List, [], _∷_}
 use mathlib.Core.Bool.{Bool, true, false, not}
@@ -40,7 +40,7 @@ use Rattle.findings.specs.Noting.{Noted}
 use Rattle.findings.specs.Errors.{unknownState}
 use Rattle.findings.specs.Scene.{Reads, StatesAt, states-here, states-none}
 use Rattle.findings.specs.Prints.{print}
-use Rattle.findings.specs.Variants.{VariantAt, Variants, NamesFilled, StatesFilled, IsVariant}
+use Rattle.findings.specs.Variants.{VariantAt, Variants, NamesFilled, StatesFilled, StandsAt, IsVariant, Hinted}
 use Rattle.findings.specs.Promises.{NotesVariant}
 use Rattle.findings.proofs.PlaceLaws.{entry-at, entry-below, drop-entry}
 use Rattle.findings.proofs.NoteLaws.{note-as}
@@ -171,37 +171,61 @@ module _ (s : List ℕ) {found : Found} (table : List ℕ) where
       go q (states-here {k = k} {vs = vs} g) = let i : k ≡ at = cc in p .of vs (subst (λ (y : ℕ). Reads (listOf maxList readName) s y vs) i g)
       go q states-none = no (cc)
 
--- a name looked up: none of the names before number j is the name
+-- a name looked up
+member-at : (w : Name) (vs : List Name) (j : ℕ) (v : Name) → getElem? vs j ≡ some v → true ≡ eqName v w → true ≡ member w vs
+unfolding member pick
+member-at w [] j v e q = no (cc)
+member-at w (x ∷ vs) zero v e q = let i : v ≡ x = cc in rw (sym (q ∙ ap (λ (y : Name). eqName y w) i))
+member-at w (x ∷ vs) (suc j) v e q = go (eqName x w) (member-at w vs j v e q)
+  where
+    go : (b : Bool) → true ≡ member w vs → true ≡ pick b true (member w vs)
+    go true r = refl
+    go false r = r
+
 module _ (s table : List ℕ) (at p : ℕ) where
+  module _ (j : ℕ) where
+    pub stands-apart : (getD table (2 * j) 0 ≡ p → ⊥) → StandsAt s table at p j false
+    stands-apart d = record { of = λ v w x t e. isn't (eqName v w) (λ y. d (x .print-is ∙ ap (print 0) (eqName-eq v w y) ∙ sym e)) }
+
+    pub stands-bytes : {b : Bool} → b ≡ eqName (textAt s (getD table (2 * j + 1) 0)) (textAt s at) → StandsAt s table at p j b
+    stands-bytes q = record { of = λ v w x t e. q ∙ ap₂ eqName (x .name-is) t }
+
+    pub look-found : {b : Bool} {many : ℕ} → StandsAt s table at p j b → b ≡ true → many ≡ length table / 2 → j < many → IsVariant s table at p true
+    look-found x z m h = record {
+      of = λ vs w g t e.
+          let r = g .room in
+          let v = entry-at vs j (omega arith) in
+          member-at w vs j (v .item) (v .is) (sym z ∙ x .of (v .item) w (g .at j (v .item) (v .is)) t e);
+    }
+
+    pub hint-stands : {b : Bool} → StandsAt s table at p j b → j < length table / 2 → Hinted s table at p b
+    hint-stands x h = record { of = λ z. look-found x z refl h }
+
+  pub hint-past : Hinted s table at p false
+  hint-past = record { of = λ z. no (cc) }
+
+  pub hint-is : {b : Bool} → Hinted s table at p b → b ≡ true → IsVariant s table at p true
+  hint-is x z = x .of z
+
+  -- none of the names before number j is the name
   pub record Looking (j : ℕ) : Type 0 where
     pub of : (vs : List Name) (w : Name) → Variants s table vs → textAt s at ≡ w → p ≡ print 0 w → member w (drop j vs) ≡ member w vs
 
   pub look-start : Looking 0
   look-start = record { of = λ vs w g t e. refl }
 
-  member-here : (w v : Name) (vs ys : List Name) (b : Bool) → ys ≡ v ∷ vs → b ≡ eqName v w → member w ys ≡ pick b true (member w vs)
-  unfolding member
-  member-here w v vs ys b e q = ap (member w) e ∙ ap (λ (x : Bool). pick x true (member w vs)) (sym q)
+  member-here : (w v : Name) (vs ys : List Name) → ys ≡ v ∷ vs → false ≡ eqName v w → member w ys ≡ member w vs
+  unfolding member pick
+  member-here w v vs ys e q = ap (member w) e ∙ ap (λ (x : Bool). pick x true (member w vs)) (sym q)
 
   module _ {j many : ℕ} (l : Looking j) (m : many ≡ length table / 2) where
-    turned : (vs : List Name) (w : Name) → j < many → (g : Variants s table vs) → textAt s at ≡ w → p ≡ print 0 w → (b : Bool) → ((v : Name) → VariantAt s table j v → b ≡ eqName v w) → pick b true (member w (drop (j + 1) vs)) ≡ member w vs
-    turned vs w h g t e b d =
-        let r = g .room in
-        let v = entry-at vs j (omega arith) in
-        sym (member-here w (v .item) (drop (j + 1) vs) (drop j vs) b (drop-entry vs j (v .item) (v .is)) (d (v .item) (g .at j (v .item) (v .is)))) ∙ l .of vs w g t e
-
-    pub look-skip : j < many → (getD table (2 * j) 0 ≡ p → ⊥) → Looking (j + 1)
-    unfolding pick
-    look-skip h d = record { of = λ vs w g t e. turned vs w h g t e false (λ v x. isn't (eqName v w) (λ y. d (x .print-is ∙ ap (print 0) (eqName-eq v w y) ∙ sym e))) }
-
-    module _ {b : Bool} (h : j < many) (q : b ≡ eqName (textAt s (getD table (2 * j + 1) 0)) (textAt s at)) where
-      pub look-other : b ≡ false → Looking (j + 1)
-      unfolding pick
-      look-other z = record { of = λ vs w g t e. turned vs w h g t e false (λ v x. sym z ∙ q ∙ ap₂ eqName (x .name-is) t) }
-
-      pub look-found : b ≡ true → IsVariant s table at p true
-      unfolding pick
-      look-found z = record { of = λ vs w g t e. turned vs w h g t e true (λ v x. sym z ∙ q ∙ ap₂ eqName (x .name-is) t) }
+    pub look-other : {b : Bool} → j < many → StandsAt s table at p j b → b ≡ false → Looking (j + 1)
+    look-other h x z = record {
+      of = λ vs w g t e.
+          let r = g .room in
+          let v = entry-at vs j (omega arith) in
+          sym (member-here w (v .item) (drop (j + 1) vs) (drop j vs) (drop-entry vs j (v .item) (v .is)) (sym z ∙ x .of (v .item) w (g .at j (v .item) (v .is)) t e)) ∙ l .of vs w g t e;
+    }
 
     pub look-done : many ≤ j → IsVariant s table at p false
     unfolding member

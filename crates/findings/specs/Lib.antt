@@ -27,3 +27,4 @@ pub mod Classes
 pub mod PairSteps
 pub mod StateSteps
 pub mod Reaching
+pub mod Links

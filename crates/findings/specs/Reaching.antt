@@ -51,7 +51,7 @@ module _ (T : ℕ → Bool → Type 0) where
     pub more : t ≤ t′
     pub same-queue : (k : ℕ) → k < t → getD q′ k 0 ≡ getD q k 0
     pub kept : (j : ℕ) → Taken m j → Taken m′ j
-    pub new : (j : ℕ) → j < i → Taken m′ j ⊎ T j false
+    pub new : (j : ℕ) → j < count → j < i → Taken m′ j ⊎ T j false
     pub only : (j : ℕ) → Taken m′ j → Taken m j ⊎ T j true
 
 -- T j b: transition j starts at the first name; U i j b: transition i leads to the state of j
@@ -65,10 +65,6 @@ module _ (T : ℕ → Bool → Type 0) (U : ℕ → ℕ → Bool → Type 0) (co
     pub start : (j : ℕ) → j < count → Taken m j ⊎ T j false
     pub closed : (i j : ℕ) → i < count → j < count → Taken m i → Taken m j ⊎ U i j false
     pub sound : (j : ℕ) → j < count → Taken m j → Chained j
-
--- transition last is followed, where there is one of that number
-pub record Followed (U : ℕ → ℕ → Bool → Type 0) (count last : ℕ) (m : List ℕ) : Type 0 where
-  pub of : last < count → (j : ℕ) → j < count → Taken m j ⊎ U last j false
 
 -- whether transition j starts at a name
 pub record BeginsAt (s rows : List ℕ) (w : Name) (j : ℕ) (r : Bool) : Type 0 where

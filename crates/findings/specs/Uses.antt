@@ -15,6 +15,7 @@ use Rattle.reading.specs.Transition.{Transition}
 use Rattle.reading.specs.Skip.{textAt}
 use Rattle.typing.specs.Names.{eqName, member, firstCalled}
 use Rattle.typing.specs.Patterns.{declaredName, patternVariantName}
+use Rattle.typing.specs.Table.{afterHead}
 use Rattle.typing.specs.declared.table.Found.{Found}
 use Rattle.typing.specs.declared.table.Found.the-variants.{At, Nothing}
 use Rattle.findings.specs.Lists.{Placed, placed, any, each}
@@ -23,7 +24,8 @@ use Rattle.typing.specs.First.{groupName}
 use Rattle.findings.specs.Mentions.{groupVariants}
 use Rattle.findings.specs.Warnings.{deadIn, dead}
 use Rattle.findings.specs.Noting.{Noted}
-use Rattle.findings.specs.Scene.{Reads, Rows}
+use Rattle.findings.specs.Scene.{Reads, field, Rows}
+use Rattle.findings.specs.Prints.{print}
 use Rattle.findings.specs.Promises.{at-place}
 use Rattle.findings.specs.declared.uses.Uses.{Uses}
 
@@ -73,6 +75,10 @@ pub record AddsUse (s : List ℕ) (at : ℕ) (g : Name) (table : List ℕ) (u : 
   pub few : u′ .named ≤ u .named + 1
   pub names : (p : Pattern) → Reads readPattern s at p → (ns : List Name) → NamesAt s table (u .named) ns → NamesAt s table′ (u′ .named) (ns ++ patternNames g p)
   pub bare : (p : Pattern) → Reads readPattern s at p → u′ .bare ≡ (u .bare || patternBare g p)
+
+-- the print of the group's name in the pattern of transition i
+abbrev pub GroupPrint : List ℕ → List ℕ → ℕ → ℕ → Type 0
+GroupPrint s rows i r = r ≡ print 0 (textAt s (afterHead s (field rows i 2)))
 
 pub record UsesOf (s rows : List ℕ) (count : ℕ) (g : Name) (table : List ℕ) (u : Uses) : Type 0 where
   pub names : (ts : List Transition) → Rows s rows ts → count ≡ length ts → NamesAt s table (u .named) (namedBy g ts)

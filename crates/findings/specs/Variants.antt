@@ -2,14 +2,14 @@
 use Prim.Native.Nat.{ℕ, _+_, _*_}
 use mathlib.Core.Path.{_≡_}
 use mathlib.Core.List.{List}
-use mathlib.Core.Bool.{Bool}
+use mathlib.Core.Bool.{Bool, true}
 use mathlib.Core.Option.{some}
 use lib.ListN.{length, getD, getElem?, take}
 use Rattle.reading.specs.Limits.{maxList}
 use Rattle.reading.specs.Text.{Name, readName}
 use Rattle.reading.specs.Combine.{listOf}
 use Rattle.reading.specs.Skip.{textAt}
-use Rattle.typing.specs.Names.{member}
+use Rattle.typing.specs.Names.{eqName, member}
 use Rattle.typing.specs.declared.table.Found.{Found}
 use Rattle.findings.specs.Prints.{print}
 use Rattle.findings.specs.Scene.{Reads, StatesAt}
@@ -30,6 +30,13 @@ pub record NamesFilled (s : List ℕ) (at words : ℕ) (table : List ℕ) : Type
 pub record StatesFilled (s : List ℕ) (found : Found) (words : ℕ) (table : List ℕ) : Type 0 where
   pub of : (vs : List Name) → StatesAt s found vs → Variants s (take words table) vs
 
--- whether the name at a place, which has the print, is a State variant
+-- whether the name at a place, which has the print, is the State variant number j, and whether it is one of them
+pub record StandsAt (s table : List ℕ) (at p j : ℕ) (r : Bool) : Type 0 where
+  pub of : (v w : Name) → VariantAt s table j v → textAt s at ≡ w → p ≡ print 0 w → r ≡ eqName v w
+
 pub record IsVariant (s table : List ℕ) (at p : ℕ) (r : Bool) : Type 0 where
   pub of : (vs : List Name) (w : Name) → Variants s table vs → textAt s at ≡ w → p ≡ print 0 w → r ≡ member w vs
+
+-- where the answer is yes, it is one of them
+pub record Hinted (s table : List ℕ) (at p : ℕ) (r : Bool) : Type 0 where
+  pub of : r ≡ true → IsVariant s table at p true

@@ -4,6 +4,7 @@ use crate::sheet::emit_if;
 use crate::uses::Uses;
 use crate::uses::fill_uses;
 use crate::uses::is_used;
+use crate::uses::print_groups;
 use reading::Answer;
 use reading::Cursor;
 use reading::text_at;
@@ -14,7 +15,8 @@ use typing::same;
 ghost use mathlib.Core.Path.{_≡_};
 ghost use Prim.Native.Nat.{_+_, _*_, _<_, _≤_, _^_};
 ghost use lib.ListN.{length};
-ghost use Rattle.findings.specs.Uses.{FirstVariants, NotesVariant, NotesVariants, NotesGroup, NotesGroups};
+ghost use Rattle.findings.specs.Classes.{Tabled};
+ghost use Rattle.findings.specs.Uses.{GroupPrint, FirstVariants, NotesVariant, NotesVariants, NotesGroup, NotesGroups};
 ghost use Rattle.findings.specs.WarningPromises.{NotesDead};
 
 // The variants of the first group of a name, by a table of the groups.
@@ -89,11 +91,12 @@ pub(crate) fn note_variants<'a>(
     m
 }
 
-// Those of group g, by a table of the groups; uses is room for the places of names.
+// Those of group g, by a table of the groups and the prints of the patterns' groups; uses is room for the places of names.
 pub(crate) fn note_group<'a>(
     doc: &'a [u8],
     groups: &'a [usize],
     rows: &'a [usize],
+    marks: &'a [u32; 256],
     count: u8,
     g: u8,
     uses: &mut [usize],
@@ -103,6 +106,7 @@ pub(crate) fn note_group<'a>(
     owner: u32,
 ) -> usize
     requires { ⌜ 2 * g + 1 < length (now groups) ⌝ }
+    requires { ⌜ Tabled (GroupPrint (now doc) (now rows)) count (now marks) ⌝ }
     requires { ⌜ length (now uses) ≡ 256 ⌝ }
     requires { ⌜ n + 255 ≤ 2 ^ 40 ⌝ }
     ensures { λ r. ⌜ NotesGroup (now (doc .entry)) owner (now (out .entry)) skip n r (now (out .exit)) (now (rows .entry)) count (now (groups .entry)) g ⌝ }
@@ -111,7 +115,7 @@ pub(crate) fn note_group<'a>(
     let j = 2 * (g as usize);
     let key = groups[j];
     let variants = groups[j + 1];
-    let u = fill_uses(doc, rows, count, text_at(doc, key), uses);
+    let u = fill_uses(doc, rows, marks, count, text_at(doc, key), uses);
     let found = first_variants(doc, groups, text_at(doc, key));
     note_variants(doc, variants, found, uses, u, g as u32, out, skip, n, owner)
 }
@@ -121,6 +125,7 @@ pub(crate) fn note_groups<'a>(
     doc: &'a [u8],
     groups: &'a [usize],
     rows: &'a [usize],
+    marks: &'a [u32; 256],
     count: u8,
     many: u8,
     uses: &mut [usize],
@@ -130,6 +135,7 @@ pub(crate) fn note_groups<'a>(
     owner: u32,
 ) -> usize
     requires { ⌜ 2 * many ≤ length (now groups) ⌝ }
+    requires { ⌜ Tabled (GroupPrint (now doc) (now rows)) count (now marks) ⌝ }
     requires { ⌜ length (now uses) ≡ 256 ⌝ }
     requires { ⌜ n + 65025 ≤ 2 ^ 40 ⌝ }
     ensures { λ r. ⌜ NotesGroups (now (doc .entry)) owner (now (out .entry)) skip n r (now (out .exit)) (now (rows .entry)) count (now (groups .entry)) many ⌝ }
@@ -138,7 +144,19 @@ pub(crate) fn note_groups<'a>(
     let mut m = n;
     let mut g: u8 = 0;
     while g < many {
-        m = note_group(doc, groups, rows, count, g, uses, out, skip, m, owner);
+        m = note_group(
+            doc,
+            groups,
+            rows,
+            marks,
+            count,
+            g,
+            uses,
+            out,
+            skip,
+            m,
+            owner,
+        );
         g += 1;
     }
     m
@@ -164,10 +182,12 @@ pub(crate) fn note_dead<'a>(
     let w = fill_pairs(doc, events, &mut table);
     let half = w / 2;
     let many = half as u8;
+    let marks = print_groups(doc, rows, count);
     note_groups(
         doc,
         &table[0..w],
         rows,
+        &marks,
         count,
         many,
         &mut uses,

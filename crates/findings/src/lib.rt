@@ -12,6 +12,7 @@ mod emits;
 mod errors;
 mod guard;
 mod impossible;
+mod links;
 mod mentions;
 mod module;
 mod on_error;

@@ -52,6 +52,7 @@ fn note_heads<'a>(
     prints: &'a [u32],
     i: u8,
     variants: &'a [usize],
+    hints: &'a [u8; 256],
     cause: u32,
     out: &mut [u32],
     skip: usize,
@@ -65,10 +66,22 @@ fn note_heads<'a>(
     let first = i as u32;
     let state = field(rows, i, 1);
     let p = print_word(prints, i, 0);
-    let a = note_variant(doc, variants, state, p, out, skip, n, owner, 6, first);
+    let a = note_variant(
+        doc,
+        variants,
+        hints,
+        state,
+        p,
+        out,
+        skip,
+        n,
+        owner,
+        6,
+        first,
+    );
     let next = field(rows, i, 4);
     let q = print_word(prints, i, 1);
-    let b = note_variant(doc, variants, next, q, out, skip, a, owner, 7, first);
+    let b = note_variant(doc, variants, hints, next, q, out, skip, a, owner, 7, first);
     emit_cause(cause, out, skip, b, owner, 8, first, 0)
 }
 
@@ -81,6 +94,7 @@ fn note_judged<'a>(
     prints: &'a [u32],
     i: u8,
     variants: &'a [usize],
+    hints: &'a [u8; 256],
     cause: u32,
     names: &'a [usize],
     k: usize,
@@ -95,7 +109,19 @@ fn note_judged<'a>(
     ensures { λ r. ⌜ NotesJudged (now (doc .entry)) owner (now (out .entry)) skip n r (now (out .exit)) (now (places .entry)) (now (rows .entry)) (now (prints .entry)) i (now (variants .entry)) cause (take k (now (names .entry))) (now (names .entry)) (now (enums .entry)) ⌝ }
     ensures { λ r. ⌜ r ≤ n + 514 ⌝ }
 {
-    let a = note_heads(doc, rows, prints, i, variants, cause, out, skip, n, owner);
+    let a = note_heads(
+        doc,
+        rows,
+        prints,
+        i,
+        variants,
+        hints,
+        cause,
+        out,
+        skip,
+        n,
+        owner,
+    );
     let outputs = word(places, 6);
     let vars = &names[0..k];
     note_body(
@@ -141,6 +167,7 @@ pub(crate) fn note_transition<'a>(
     prints: &'a [u32],
     i: u8,
     variants: &'a [usize],
+    hints: &'a [u8; 256],
     table: &mut [usize],
     vars: u8,
     enums: &'a [usize],
@@ -169,6 +196,7 @@ pub(crate) fn note_transition<'a>(
         prints,
         i,
         variants,
+        hints,
         cause,
         names,
         k,
@@ -188,6 +216,7 @@ fn note_transitions<'a>(
     prints: &'a [u32],
     count: u8,
     variants: &'a [usize],
+    hints: &'a [u8; 256],
     table: &mut [usize],
     vars: u8,
     enums: &'a [usize],
@@ -213,6 +242,7 @@ fn note_transitions<'a>(
             prints,
             i,
             variants,
+            hints,
             table,
             vars,
             enums,
@@ -250,7 +280,8 @@ pub(crate) fn note_moves<'a>(
     ensures { λ _. ⌜ take (2 * vars) (now (table .exit)) ≡ take (2 * vars) (now (table .entry)) ⌝ }
 {
     let mut states = [0usize; 510];
-    let words = fill_states(doc, found, &mut states);
+    let mut hints = [0u8; 256];
+    let words = fill_states(doc, found, &mut states, &mut hints);
     let variants = &states[0..words];
     note_transitions(
         doc,
@@ -259,6 +290,7 @@ pub(crate) fn note_moves<'a>(
         prints,
         count,
         variants,
+        &hints,
         table,
         vars,
         enums,

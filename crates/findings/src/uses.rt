@@ -1,4 +1,5 @@
 // Variants of a group of events that patterns use.
+use crate::prints::print_bytes;
 use crate::rows::field;
 use crate::rows::word;
 use reading::text_at;
@@ -12,8 +13,11 @@ use typing::same;
 use typing::store;
 ghost use mathlib.Core.Path.{_≡_};
 ghost use Prim.Native.Nat.{_<_};
-ghost use lib.ListN.{length};
-ghost use Rattle.findings.specs.Uses.{AddsVariant, AddsUse, UsesOf, IsNamed, HasVariant, IsUsed};
+ghost use lib.ListN.{length, getD};
+ghost use Rattle.findings.specs.Scene.{field};
+ghost use Rattle.findings.specs.Prints.{print};
+ghost use Rattle.findings.specs.Classes.{Tabled};
+ghost use Rattle.findings.specs.Uses.{AddsVariant, AddsUse, GroupPrint, UsesOf, IsNamed, HasVariant, IsUsed};
 
 // How many variants the patterns of a group name, and whether one of them names none.
 pub struct Uses {
@@ -59,25 +63,71 @@ pub(crate) fn add_use<'a>(
     u
 }
 
-// The same of all transitions.
+// The print of the group's name in the pattern of transition i.
+fn print_group(doc: &[u8], rows: &[usize], i: u8) -> u32
+    ensures { λ r. ⌜ GroupPrint (now (doc .entry)) (now (rows .entry)) i r ⌝ }
+{
+    let name = after_head(doc, field(rows, i, 2));
+    print_bytes(text_at(doc, name), 0)
+}
+
+// The prints of the groups' names in the patterns.
+pub(crate) fn print_groups(doc: &[u8], rows: &[usize], count: u8) -> [u32; 256]
+    ensures { λ r. ⌜ Tabled (GroupPrint (now (doc .entry)) (now (rows .entry))) count r ⌝ }
+{
+    let mut marks: [u32; 256] = [0; 256];
+    let mut i: u8 = 0;
+    while i < count {
+        marks[i as usize] = print_group(doc, rows, i);
+        i += 1;
+    }
+    marks
+}
+
+// The same of the pattern of transition i: it is of another group where the prints of their names differ.
+fn add_marked<'a>(
+    doc: &'a [u8],
+    rows: &'a [usize],
+    marks: &'a [u32; 256],
+    i: u8,
+    mark: u32,
+    group: &'a [u8],
+    table: &mut [usize],
+    u: Uses,
+) -> Uses
+    requires { ⌜ GroupPrint (now doc) (now rows) i (getD (now marks) i 0) ⌝ }
+    requires { ⌜ mark ≡ print 0 (now group) ⌝ }
+    requires { ⌜ u .named < 255 ⌝ }
+    requires { ⌜ length (now table) ≡ 256 ⌝ }
+    ensures { λ r. ⌜ AddsUse (now (doc .entry)) (field (now (rows .entry)) i 2) (now (group .entry)) (now (table .entry)) u (now (table .exit)) r ⌝ }
+{
+    if marks[i as usize] != mark {
+        return u;
+    }
+    add_use(doc, field(rows, i, 2), group, table, u)
+}
+
+// The same of all transitions, by the prints of their groups' names.
 pub(crate) fn fill_uses<'a>(
     doc: &'a [u8],
     rows: &'a [usize],
+    marks: &'a [u32; 256],
     count: u8,
     group: &'a [u8],
     table: &mut [usize],
 ) -> Uses
+    requires { ⌜ Tabled (GroupPrint (now doc) (now rows)) count (now marks) ⌝ }
     requires { ⌜ length (now table) ≡ 256 ⌝ }
     ensures { λ r. ⌜ UsesOf (now (doc .entry)) (now (rows .entry)) count (now (group .entry)) (now (table .exit)) r ⌝ }
 {
+    let mark = print_bytes(group, 0);
     let mut u = Uses {
         named: 0,
         bare: false,
     };
     let mut i: u8 = 0;
     while i < count {
-        let at = field(rows, i, 2);
-        u = add_use(doc, at, group, table, u);
+        u = add_marked(doc, rows, marks, i, mark, group, table, u);
         i += 1;
     }
     u

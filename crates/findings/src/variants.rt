@@ -1,5 +1,5 @@
 // The table of the State variants, two words each: the print of a name and its place. A name is looked up by its print, and by its bytes
-// only where the prints are equal.
+// only where the prints are equal; first where a hint says, which is the number of a name whose print has the same remainder.
 use crate::prints::print_bytes;
 use crate::sheet::emit_if;
 use reading::Answer;
@@ -10,29 +10,33 @@ use typing::after;
 use typing::same_name;
 ghost use mathlib.Core.Path.{_≡_};
 ghost use mathlib.Core.List.{[], _∷_};
-ghost use Prim.Native.Nat.{_+_, _*_, _≤_, _^_};
+ghost use Prim.Native.Nat.{_+_, _*_, _<_, _≤_, _^_};
 ghost use lib.ListN.{length};
 ghost use lib.Seq.{sets};
 ghost use Rattle.reading.specs.Skip.{textAt};
 ghost use Rattle.findings.specs.Prints.{print};
-ghost use Rattle.findings.specs.Variants.{IsVariant, NamesFilled, StatesFilled};
+ghost use Rattle.findings.specs.Variants.{StandsAt, Hinted, IsVariant, NamesFilled, StatesFilled};
 ghost use Rattle.findings.specs.Promises.{NotesVariant};
 
-// Puts the two words of the name at a place, number j of its list.
-fn fill_variant(doc: &[u8], at: usize, j: u64, variants: &mut [usize])
+// Puts the two words of the name at a place, number j of its list, and the hint to it.
+fn fill_variant(doc: &[u8], at: usize, j: u64, variants: &mut [usize], hints: &mut [u8])
     requires { ⌜ j ≤ 254 ⌝ }
     requires { ⌜ 510 ≤ length (now variants) ⌝ }
+    requires { ⌜ 256 ≤ length (now hints) ⌝ }
     ensures { λ _. ⌜ now (variants .exit) ≡ sets (now (variants .entry)) (2 * j) (print 0 (textAt (now (doc .entry)) at) ∷ at ∷ []) ⌝ }
 {
     let p = print_bytes(text_at(doc, at), 0);
     let w = 2 * (j as usize);
     variants[w] = p as usize;
     variants[w + 1] = at;
+    let h = (p % 256) as usize;
+    hints[h] = j as u8;
 }
 
 // Fills the table of the names of the list at a place; how many words it takes.
-fn fill_variants(doc: &[u8], at: usize, variants: &mut [usize]) -> usize
+fn fill_variants(doc: &[u8], at: usize, variants: &mut [usize], hints: &mut [u8]) -> usize
     requires { ⌜ 510 ≤ length (now variants) ⌝ }
+    requires { ⌜ 256 ≤ length (now hints) ⌝ }
     ensures { λ r. ⌜ NamesFilled (now (doc .entry)) at r (now (variants .exit)) ⌝ }
     ensures { λ r. ⌜ r ≤ 510 ⌝ }
 {
@@ -44,7 +48,7 @@ fn fill_variants(doc: &[u8], at: usize, variants: &mut [usize]) -> usize
     let mut k = first.at;
     let mut j: u64 = 0;
     while j < many {
-        fill_variant(doc, k, j, variants);
+        fill_variant(doc, k, j, variants, hints);
         k = after(doc, k);
         j += 1;
     }
@@ -52,39 +56,76 @@ fn fill_variants(doc: &[u8], at: usize, variants: &mut [usize]) -> usize
 }
 
 // Fills the table of the State variants; how many words it takes.
-pub(crate) fn fill_states(doc: &[u8], found: Found, variants: &mut [usize]) -> usize
+pub(crate) fn fill_states(
+    doc: &[u8],
+    found: Found,
+    variants: &mut [usize],
+    hints: &mut [u8],
+) -> usize
     requires { ⌜ 510 ≤ length (now variants) ⌝ }
+    requires { ⌜ 256 ≤ length (now hints) ⌝ }
     ensures { λ r. ⌜ StatesFilled (now (doc .entry)) found r (now (variants .exit)) ⌝ }
     ensures { λ r. ⌜ r ≤ 510 ⌝ }
 {
     let Found::At(at) = found else {
         return 0;
     };
-    fill_variants(doc, at, variants)
+    fill_variants(doc, at, variants, hints)
 }
 
-// Whether the name at a place, which has the print, is one of them.
-fn is_variant(doc: &[u8], variants: &[usize], at: usize, print: u32) -> bool
+// Whether the name at a place, which has the print, is name number j of them.
+fn stands_at(doc: &[u8], variants: &[usize], at: usize, print: u32, j: usize) -> bool
+    requires { ⌜ 2 * j + 1 < length (now variants) ⌝ }
+    ensures { λ r. ⌜ StandsAt (now (doc .entry)) (now (variants .entry)) at print j r ⌝ }
+{
+    if variants[2 * j] != print as usize {
+        return false;
+    }
+    same_name(doc, variants[2 * j + 1], at)
+}
+
+// Whether it is one of them, each by itself.
+fn is_listed(doc: &[u8], variants: &[usize], at: usize, print: u32) -> bool
     ensures { λ r. ⌜ IsVariant (now (doc .entry)) (now (variants .entry)) at print r ⌝ }
 {
-    let p = print as usize;
     let many = variants.len() / 2;
     let mut j: usize = 0;
     while j < many {
-        if variants[2 * j] == p {
-            if same_name(doc, variants[2 * j + 1], at) {
-                return true;
-            }
+        if stands_at(doc, variants, at, print, j) {
+            return true;
         }
         j += 1;
     }
     false
 }
 
+// Whether it is the one that is hinted at; false where there is none of that number.
+fn is_hinted(doc: &[u8], variants: &[usize], at: usize, print: u32, hint: u8) -> bool
+    ensures { λ r. ⌜ Hinted (now (doc .entry)) (now (variants .entry)) at print r ⌝ }
+{
+    let j = hint as usize;
+    if j < variants.len() / 2 {
+        return stands_at(doc, variants, at, print, j);
+    }
+    false
+}
+
+// Whether it is one of them, the one that is hinted at first.
+fn is_variant(doc: &[u8], variants: &[usize], hints: &[u8; 256], at: usize, print: u32) -> bool
+    ensures { λ r. ⌜ IsVariant (now (doc .entry)) (now (variants .entry)) at print r ⌝ }
+{
+    let hint = hints[(print % 256) as usize];
+    if is_hinted(doc, variants, at, print, hint) {
+        return true;
+    }
+    is_listed(doc, variants, at, print)
+}
+
 // The name at a place, which has the print, where it is none of them.
 pub(crate) fn note_variant<'a>(
     doc: &'a [u8],
     variants: &'a [usize],
+    hints: &'a [u8; 256],
     at: usize,
     print: u32,
     out: &mut [u32],
@@ -98,6 +139,6 @@ pub(crate) fn note_variant<'a>(
     ensures { λ r. ⌜ NotesVariant (now (doc .entry)) owner (now (out .entry)) skip n r (now (out .exit)) (now (variants .entry)) at print site first ⌝ }
     ensures { λ r. ⌜ r ≤ n + 1 ⌝ }
 {
-    let known = is_variant(doc, variants, at, print);
+    let known = is_variant(doc, variants, hints, at, print);
     emit_if(!known, out, skip, n, owner, site, first, 0)
 }

@@ -1,14 +1,17 @@
 // The walk over transitions, each taken at most once: marks by place, and a queue of the places taken.
+use crate::links::link_all;
+use crate::links::next_free;
 use crate::pairs::leads_to;
-use crate::pairs::same_fields;
+use crate::prints::print_word;
 use crate::rows::field;
 use reading::text_at;
 use typing::same;
 ghost use mathlib.Core.Path.{_≡_};
-ghost use Prim.Native.Nat.{_+_, _<_};
+ghost use Prim.Native.Nat.{_+_, _<_, _≤_};
 ghost use lib.ListN.{length, set};
 ghost use Rattle.findings.specs.PairPromises.{LeadsOn};
-ghost use Rattle.findings.specs.Reaching.{Queued, Stepped, Swept, Walked, Followed, BeginsAt};
+ghost use Rattle.findings.specs.Reaching.{Queued, Stepped, Swept, Walked, BeginsAt};
+ghost use Rattle.findings.specs.Links.{leadOf, Links, Ahead, Heads};
 
 // Takes transition i; the queue's next place.
 fn take(i: u8, marks: &mut [u8], queue: &mut [u8], tail: usize) -> usize
@@ -96,54 +99,61 @@ fn step_one<'a>(
     tail
 }
 
-// Takes every transition to whose state p leads; there is none left where all are taken.
-pub(crate) fn step_all<'a>(
+// Takes every transition to whose state p leads, from a place of its lane on.
+fn follow<'a>(
     doc: &'a [u8],
     rows: &'a [usize],
     prints: &'a [u32],
     count: u8,
     p: u8,
+    links: &'a [u8],
+    from: u8,
     marks: &mut [u8],
     queue: &mut [u8],
     tail: usize,
 ) -> usize
     requires { ⌜ Queued count (now marks) (now queue) tail ⌝ }
+    requires { ⌜ length (now links) ≡ 256 ⌝ }
+    requires { ⌜ Links (now prints) count (now links) ⌝ }
+    requires { ⌜ Ahead (now prints) count (now marks) (leadOf (now prints) p) from ⌝ }
     ensures { λ r. ⌜ Swept (LeadsOn (now (doc .entry)) (now (rows .entry)) (now (prints .entry)) count p) count (now (marks .entry)) (now (queue .entry)) tail count (now (marks .exit)) (now (queue .exit)) r ⌝ }
 {
-    if tail == count as usize {
-        return tail;
-    }
     let mut t = tail;
-    let mut i: u8 = 0;
+    let mut i = from;
     while i < count {
         t = step_one(doc, rows, prints, count, p, i, marks, queue, t);
-        i += 1;
+        let k = i as usize;
+        i = links[k];
     }
     t
 }
 
-// The same; there is none left where the last one that was followed leads to the same state.
-fn step_next<'a>(
+// The same of the whole lane; its head goes on to the first that is not taken.
+fn step_all<'a>(
     doc: &'a [u8],
     rows: &'a [usize],
     prints: &'a [u32],
     count: u8,
-    last: u8,
     p: u8,
+    heads: &mut [u8],
+    links: &'a [u8],
     marks: &mut [u8],
     queue: &mut [u8],
     tail: usize,
 ) -> usize
     requires { ⌜ Queued count (now marks) (now queue) tail ⌝ }
-    requires { ⌜ Followed (LeadsOn (now doc) (now rows) (now prints) count) count last (now marks) ⌝ }
+    requires { ⌜ length (now links) ≡ 256 ⌝ }
+    requires { ⌜ Links (now prints) count (now links) ⌝ }
+    requires { ⌜ length (now heads) ≡ 256 ⌝ }
+    requires { ⌜ Heads (now prints) count (now heads) (now marks) ⌝ }
     ensures { λ r. ⌜ Swept (LeadsOn (now (doc .entry)) (now (rows .entry)) (now (prints .entry)) count p) count (now (marks .entry)) (now (queue .entry)) tail count (now (marks .exit)) (now (queue .exit)) r ⌝ }
+    ensures { λ _. ⌜ Heads (now (prints .entry)) count (now (heads .exit)) (now (marks .exit)) ⌝ }
 {
-    if last < count {
-        if same_fields(doc, rows, last, 4, p, 4) {
-            return tail;
-        }
-    }
-    step_all(doc, rows, prints, count, p, marks, queue, tail)
+    let h = (print_word(prints, p, 1) % 256) as usize;
+    let from = heads[h];
+    let t = follow(doc, rows, prints, count, p, links, from, marks, queue, tail);
+    heads[h] = next_free(marks, links, count, from);
+    t
 }
 
 // Marks every transition that a chain from the name takes.
@@ -156,16 +166,29 @@ pub(crate) fn walk<'a>(
     marks: &mut [u8],
     queue: &mut [u8],
 )
+    requires { ⌜ 768 ≤ length (now prints) ⌝ }
     requires { ⌜ Queued count (now marks) (now queue) 0 ⌝ }
     ensures { λ _. ⌜ Walked (BeginsAt (now (doc .entry)) (now (rows .entry)) (now (name .entry))) (LeadsOn (now (doc .entry)) (now (rows .entry)) (now (prints .entry)) count) count (now (marks .exit)) ⌝ }
 {
+    let mut heads: [u8; 256] = [255; 256];
+    let mut links: [u8; 256] = [0; 256];
+    link_all(prints, count, &mut heads, &mut links);
     let mut tail = start_all(doc, rows, count, name, marks, queue);
-    let mut last: u8 = 255;
     let mut head: usize = 0;
     while head < tail {
         let p = queue[head];
-        tail = step_next(doc, rows, prints, count, last, p, marks, queue, tail);
-        last = p;
+        tail = step_all(
+            doc,
+            rows,
+            prints,
+            count,
+            p,
+            &mut heads,
+            &links,
+            marks,
+            queue,
+            tail,
+        );
         head += 1;
     }
 }

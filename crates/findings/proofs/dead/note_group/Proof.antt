@@ -16,7 +16,7 @@ note-group-spec =
     (λ c. omega arith)
     (λ c. omega arith)
     (λ c κs. search needs)
-    (λ c κs. omega arith)
+    (λ c κs. (search needs, omega arith))
     (λ c κs. search needs)
     (λ c κs. search needs)
     (λ c κs. omega arith)

@@ -3,16 +3,17 @@ use mathlib.Core.Path.{_≡_}
 use Prim.Native.Nat.{_+_, _-_, _*_, _≤_}
 use lib.ListN.{length}
 use native.Mathlib.Omega.{arith}
+use borrow.Author.Needs.{needs}
 use Rattle.findings.proofs.DeadLaws.{GroupsLeft, groups-start, groups-more, groups-done}
 use Rattle.findings.proofs.dead.note_groups.Statement.{statement}
 use Rattle.findings.proofs.dead.note_groups.Tie as tie
 
 abbrev Inv-loop : tie.InvT-loop
-Inv-loop doc groups rows count many uses₀ out₀ skip n owner m₀ g₀ uses out m g =
+Inv-loop doc groups rows marks count many uses₀ out₀ skip n owner m₀ g₀ uses out m g =
     (g ≤ many) × (m ≤ n + 255 * g) × (length uses ≡ 256) × (length out ≡ length out₀) × GroupsLeft doc owner out₀ skip n rows count groups many g m out
 
 abbrev μ-loop : tie.MeasureT-loop
-μ-loop doc groups rows count many uses₀ out₀ skip n owner m₀ g₀ uses out m g = many - g
+μ-loop doc groups rows marks count many uses₀ out₀ skip n owner m₀ g₀ uses out m g = many - g
 
 pub note-groups-spec : {M : Type 1} → statement M
 note-groups-spec =
@@ -21,7 +22,7 @@ note-groups-spec =
     Inv-loop
     μ-loop
     (λ c. (omega arith, omega arith, omega arith, omega arith, search groups-start))
-    (λ c κs. (omega arith, (omega arith, omega arith)))
+    (λ c κs. (omega arith, (search needs, (omega arith, omega arith))))
     (λ c. omega arith)
     (λ c. omega arith)
     (λ c. (omega arith, omega arith, omega arith, omega arith, search groups-more))

@@ -16,7 +16,7 @@ note-unreachable-spec =
     (λ c κs. search needs)
     (λ c. search needs)
     (λ c. search needs)
-    (λ c κs. queued-none _ _ _ refl refl (omega arith))
+    (λ c κs. (search needs, queued-none _ _ _ refl refl (omega arith)))
     (λ c. search needs)
     (λ c κs. omega arith)
     (λ c. search needs)

@@ -4,15 +4,15 @@ use Prim.Native.Nat.{_-_, _≤_}
 use lib.ListN.{length}
 use native.Mathlib.Omega.{arith}
 use borrow.Author.Needs.{needs}
-use Rattle.findings.proofs.UseLaws.{UsesLeft, uses-start, uses-more, uses-done}
+use Rattle.findings.proofs.UseLaws.{UsesLeft, uses-start, print-of, uses-more, uses-done}
 use Rattle.findings.proofs.uses.fill_uses.Statement.{statement}
 use Rattle.findings.proofs.uses.fill_uses.Tie as tie
 
 abbrev Inv-loop : tie.InvT-loop
-Inv-loop doc rows count group table₀ u₀ i₀ table u i = (i ≤ count) × (length table ≡ 256) × UsesLeft doc rows count group table i u
+Inv-loop doc rows marks count group table₀ mark u₀ i₀ table u i = (i ≤ count) × (length table ≡ 256) × UsesLeft doc rows count group table i u
 
 abbrev μ-loop : tie.MeasureT-loop
-μ-loop doc rows count group table₀ u₀ i₀ table u i = count - i
+μ-loop doc rows marks count group table₀ mark u₀ i₀ table u i = count - i
 
 pub fill-uses-spec : {M : Type 1} → statement M
 fill-uses-spec =
@@ -20,9 +20,9 @@ fill-uses-spec =
     (tie.spec
     Inv-loop
     μ-loop
-    (λ c. (omega arith, omega arith, search uses-start))
     (λ c κs. search needs)
-    (λ c κs. (omega arith, omega arith))
+    (λ c. (omega arith, omega arith, search uses-start))
+    (λ c κs. (search print-of, (search needs, (omega arith, omega arith))))
     (λ c. omega arith)
     (λ c. omega arith)
     (λ c. (omega arith, omega arith, search uses-more))
