@@ -11,7 +11,7 @@ ghost use mathlib.Core.Path.{_≡_};
 ghost use Rattle.reading.specs.Item.{readNumber};
 ghost use Rattle.reading.specs.Limits.{maxU32};
 ghost use Rattle.typing.specs.Means.{tyOf};
-ghost use Rattle.typing.specs.Table.{Past, findIn, found, widthType, exprTypeAt, memberAt};
+ghost use Rattle.typing.specs.Table.{Past, Stops, Cased, findIn, found, widthType, exprTypeAt, memberAt};
 
 // What stands under a name: its place.
 pub enum Found {
@@ -31,28 +31,72 @@ pub(crate) fn after_any(doc: &[u8], at: usize) -> usize
     }
 }
 
-// The place after the item at a place: short ones, a number, an empty list, a simple value and a name, by their first byte.
-pub fn after(doc: &[u8], at: usize) -> usize
-    ensures { λ r. ⌜ Past (now (doc .entry)) at r ⌝ }
+// Where a short item ends, by its first byte: a number, an empty list, a simple value or a name.
+fn short_end(doc: &[u8], at: usize) -> Found
+    ensures { λ r. ⌜ Stops (now (doc .entry)) at r ⌝ }
 {
     if at < doc.len() {
         let b = doc[at];
         if b < 24 {
-            return at + 1;
+            return Found::At(at + 1);
         }
         if b == 128 {
-            return at + 1;
+            return Found::At(at + 1);
         }
         if 243 < b {
             if b < 247 {
-                return at + 1;
+                return Found::At(at + 1);
             }
         }
         if 96 < b {
             if b < 120 {
                 let n = (b - 96) as usize;
                 if n < doc.len() - at {
-                    return at + 1 + n;
+                    return Found::At(at + 1 + n);
+                }
+            }
+        }
+    }
+    Found::Nothing
+}
+
+// The place after the item at a place: most are short.
+pub fn after(doc: &[u8], at: usize) -> usize
+    ensures { λ r. ⌜ Past (now (doc .entry)) at r ⌝ }
+{
+    let e = short_end(doc, at);
+    match e {
+        Found::At(end) => end,
+        Found::Nothing => after_any(doc, at),
+    }
+}
+
+// The place after the array of two at a place, whose first item is a case number.
+fn after_second(doc: &[u8], at: usize) -> usize
+    requires { ⌜ Cased (now doc) at ⌝ }
+    ensures { λ r. ⌜ Past (now (doc .entry)) at r ⌝ }
+{
+    let e = short_end(doc, at + 2);
+    match e {
+        Found::At(end) => end,
+        Found::Nothing => after_any(doc, at),
+    }
+}
+
+// The same of a data enum: most are a case alone, or a case and a short item.
+pub(crate) fn after_case(doc: &[u8], at: usize) -> usize
+    ensures { λ r. ⌜ Past (now (doc .entry)) at r ⌝ }
+{
+    let len = doc.len();
+    if at < len {
+        if 2 < len - at {
+            let b = doc[at];
+            if doc[at + 1] < 24 {
+                if b == 129 {
+                    return at + 2;
+                }
+                if b == 130 {
+                    return after_second(doc, at);
                 }
             }
         }
