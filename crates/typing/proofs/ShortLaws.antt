@@ -12,7 +12,7 @@ use Rattle.reading.specs.Head.{Hd, readHead, headWith, simple}
 use Rattle.reading.specs.Items.{inside, payload, Items, none, more}
 use Rattle.reading.proofs.Rules.{pick-true, pick-false}
 use Rattle.reading.proofs.Skips.{items-passed}
-use Rattle.typing.specs.Table.{placeAfter, Past, Ended, Stops, Cased}
+use Rattle.typing.specs.Table.{placeAfter, Past, Ended, Stops}
 use Rattle.typing.specs.declared.table.Found.{Found}
 use Rattle.typing.specs.declared.table.Found.the-variants.{At, Nothing}
 
@@ -70,34 +70,26 @@ pub stops-nowhere : (s : List ℕ) (at : ℕ) → Stops s at Nothing
 unfolding Stops
 stops-nowhere s at = tt
 
-module _ (s : List ℕ) (at : ℕ) (each : (i : ℕ) → Fits w8 (getD s i 0)) where
-  ended-past : {end : ℕ} → Ended s at end → Past s at end
-  unfolding placeAfter
-  ended-past e = record { is = sym (ap placeAfter (items-passed (e .item) (e .room))); each = λ i. omega (arith, each i) }
-
-  stop-is : (k : ℕ) {f : Found} {end : ℕ} → Stops s k f → f ≡ At end → Ended s k end
-  unfolding Stops
-  stop-is k g q = rw q at g
-
-  pub stops-past : {f : Found} {end : ℕ} → Stops s at f → f ≡ At end → Past s at end
-  stops-past g q = ended-past (stop-is at g q)
-
-  -- a case alone, and one with a short item
-  pub case-alone : getD s at 0 ≡ 129 → getD s (at + 1) 0 < 24 → 2 < length s - at → Past s at (at + 2)
-  unfolding inside payload pick
-  case-alone b l h =
+-- a case alone, and one with a short item
+module _ (s : List ℕ) (at : ℕ) (l : getD s (at + 1) 0 < 24) (h : 2 < length s - at) where
+  pub stops-case : getD s at 0 ≡ 129 → Stops s at (At (at + 2))
+  unfolding Stops inside payload pick
+  stops-case b =
       let e = ends-number s (at + 1) (omega arith) l in
       let w : at + 1 + 1 ≡ at + 2 = omega arith in
       let o = item-opens s at (omega arith) 0 _ (head-one s at (omega arith) 4 1 (omega arith) (omega arith) (omega arith) (omega arith)) refl (e .item) in
-      ended-past (subst (Ended s at) w (record { item = o; room = e .room }))
+      subst (Ended s at) w (record { item = o; room = e .room })
 
-  pub case-second : Cased s at → {f : Found} {end : ℕ} → Stops s (at + 2) f → f ≡ At end → Past s at end
-  unfolding inside payload pick
-  case-second c {f} {end} g q =
-      let h = c .room in
-      let b = c .two in
-      let l = c .case in
-      let e = stop-is (at + 2) g q in
+  pub stops-second : getD s at 0 ≡ 130 → (f : Found) → Stops s (at + 2) f → Stops s at f
+  unfolding Stops inside payload pick
+  stops-second b (At end) e =
       let w : at + 2 ≡ at + 1 + 1 = omega arith in
       let i = item-opens s (at + 1) (omega arith) 1 _ (head-one s (at + 1) (omega arith) 0 (getD s (at + 1) 0) (omega arith) (omega arith) (omega arith) l) refl (subst (λ (z : ℕ). Items s 1 z end) w (e .item)) in
-      ended-past (record { item = item-opens s at (omega arith) 0 _ (head-one s at (omega arith) 4 2 (omega arith) (omega arith) (omega arith) (omega arith)) refl i; room = e .room })
+      record { item = item-opens s at (omega arith) 0 _ (head-one s at (omega arith) 4 2 (omega arith) (omega arith) (omega arith) (omega arith)) refl i; room = e .room }
+  stops-second b Nothing e = tt
+
+pub stops-past : (s : List ℕ) (at : ℕ) → ((i : ℕ) → Fits w8 (getD s i 0)) → {f : Found} {end : ℕ} → Stops s at f → f ≡ At end → Past s at end
+unfolding Stops placeAfter
+stops-past s at each {f} {end} g q =
+    let e : Ended s at end = rw q at g in
+    record { is = sym (ap placeAfter (items-passed (e .item) (e .room))); each = λ i. omega (arith, each i) }

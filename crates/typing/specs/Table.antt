@@ -44,12 +44,6 @@ unfoldable pub Stops : List ℕ → ℕ → Found → Type 0
 Stops s at (At end) = Ended s at end
 Stops s at Nothing = Unit {0}
 
--- an array of two at a place, by its first byte, whose first item is a number of one byte
-pub record Cased (s : List ℕ) (at : ℕ) : Type 0 where
-  pub room : at + 2 < length s
-  pub two : getD s at 0 ≡ 130
-  pub case : getD s (at + 1) 0 < 24
-
 -- the place after the head of the record at a place
 abbrev pub afterHead : List ℕ → ℕ → ℕ
 afterHead s at = placeAfter (readKind 4 s at)

@@ -11,7 +11,7 @@ ghost use mathlib.Core.Path.{_≡_};
 ghost use Rattle.reading.specs.Item.{readNumber};
 ghost use Rattle.reading.specs.Limits.{maxU32};
 ghost use Rattle.typing.specs.Means.{tyOf};
-ghost use Rattle.typing.specs.Table.{Past, Stops, Cased, findIn, found, widthType, exprTypeAt, memberAt};
+ghost use Rattle.typing.specs.Table.{Past, Stops, findIn, found, widthType, exprTypeAt, memberAt};
 
 // What stands under a name: its place.
 pub enum Found {
@@ -71,21 +71,9 @@ pub fn after(doc: &[u8], at: usize) -> usize
     }
 }
 
-// The place after the array of two at a place, whose first item is a case number.
-fn after_second(doc: &[u8], at: usize) -> usize
-    requires { ⌜ Cased (now doc) at ⌝ }
-    ensures { λ r. ⌜ Past (now (doc .entry)) at r ⌝ }
-{
-    let e = short_end(doc, at + 2);
-    match e {
-        Found::At(end) => end,
-        Found::Nothing => after_any(doc, at),
-    }
-}
-
-// The same of a data enum: most are a case alone, or a case and a short item.
-pub(crate) fn after_case(doc: &[u8], at: usize) -> usize
-    ensures { λ r. ⌜ Past (now (doc .entry)) at r ⌝ }
+// The same of a short data enum: a case alone, or a case and a short item.
+fn case_end(doc: &[u8], at: usize) -> Found
+    ensures { λ r. ⌜ Stops (now (doc .entry)) at r ⌝ }
 {
     let len = doc.len();
     if at < len {
@@ -93,15 +81,26 @@ pub(crate) fn after_case(doc: &[u8], at: usize) -> usize
             let b = doc[at];
             if doc[at + 1] < 24 {
                 if b == 129 {
-                    return at + 2;
+                    return Found::At(at + 2);
                 }
                 if b == 130 {
-                    return after_second(doc, at);
+                    return short_end(doc, at + 2);
                 }
             }
         }
     }
-    after_any(doc, at)
+    Found::Nothing
+}
+
+// The place after the data enum at a place: most are short.
+pub(crate) fn after_case(doc: &[u8], at: usize) -> usize
+    ensures { λ r. ⌜ Past (now (doc .entry)) at r ⌝ }
+{
+    let e = case_end(doc, at);
+    match e {
+        Found::At(end) => end,
+        Found::Nothing => after_any(doc, at),
+    }
 }
 
 // What stands under a name in a table: the last.
