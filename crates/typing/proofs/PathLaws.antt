@@ -9,30 +9,34 @@ use lib.ListN.{length, getD}
 use borrow.Author.Tests.{lt-ltb, le-ltb}
 use Rattle.reading.specs.Read.{ok, pick, bind}
 use Rattle.reading.specs.Text.{Name}
-use Rattle.reading.specs.Limits.{maxPath}
-use Rattle.reading.specs.Item.{readKind, readCount}
+use Rattle.reading.specs.Limits.{maxU32, maxPath}
+use Rattle.reading.specs.Item.{readKind, readNumber, readCount, readTag}
 use Rattle.reading.specs.Text.{readName}
 use Rattle.reading.specs.Expr.{readPath}
 use Rattle.reading.specs.Views.{Rest, ListAt}
-use Rattle.reading.specs.Link.{answer}
+use Rattle.reading.specs.Link.{answer, taggedOf}
 use Rattle.reading.specs.Skip.{textAt}
 use Rattle.reading.specs.declared.cursor.Cursor.{Cursor}
 use Rattle.reading.specs.declared.fault.Fault.{Fault}
 use Rattle.reading.specs.declared.item.Answer.{Answer}
 use Rattle.reading.specs.declared.item.Answer.the-variants.{Got, Refused}
+use Rattle.reading.specs.declared.item.Tag.{Tag}
+use Rattle.reading.specs.declared.item.Tagged.{Tagged}
+use Rattle.reading.specs.declared.item.Tagged.the-variants as tagged
 use Rattle.reading.proofs.Rules.{no}
 use Rattle.reading.proofs.Answers.{num, out}
 use Rattle.reading.proofs.HeadSound.{Bytes}
 use Rattle.reading.proofs.ExprLaws.{name-laws, path-laws}
 use Rattle.reading.proofs.ListViews.{list-at, rest-all, rest-none, turn}
 use Rattle.reading.proofs.Walks.{passed, name-text}
+use Rattle.typing.specs.Types.{ExprType}
 use Rattle.typing.specs.Causes.{firstOf}
 use Rattle.typing.specs.Names.{eqName, stateWord, stateEnum}
 use Rattle.typing.specs.Env.{given, stateVariants}
 use Rattle.typing.specs.Typing.{resolveState, orState, resolveName, resolveVariant, resolvePath}
-use Rattle.typing.specs.Means.{tyOf, causeOf, typedOf, outcome}
+use Rattle.typing.specs.Means.{good, tyOf, causeOf, typedOf, outcome}
 use Rattle.typing.specs.Tells.{Ends}
-use Rattle.typing.specs.Table.{placeAfter, afterItem, Past, findIn, found, exprTypeAt, memberAt, typeFound, variantFound, envAt}
+use Rattle.typing.specs.Table.{placeAfter, afterItem, Past, findIn, found, widthType, exprTypeAt, memberAt, typeFound, variantFound, envAt}
 use Rattle.typing.specs.Typed.{Resolves}
 use Rattle.typing.specs.declared.ty.Ty.{Ty}
 use Rattle.typing.specs.declared.ty.Ty.the-variants as ty
@@ -42,6 +46,7 @@ use Rattle.typing.specs.declared.cause.Typed.{Typed}
 use Rattle.typing.specs.declared.cause.Typed.the-variants.{Is, Fails}
 use Rattle.typing.specs.declared.cause.Cause.the-variants.{UnknownIdentifier, UnknownEnum, UnknownVariant, PathLength, EmptyPath}
 use Rattle.typing.proofs.ShortLaws.{head-one}
+use Rattle.typing.proofs.TableLaws.{width-is, width-none, type-none, case-width, type-enum, type-bool, type-beyond}
 use Rattle.typing.proofs.EnvLaws.{after-is}
 
 -- what a search found
@@ -77,6 +82,39 @@ module _ (s enums : List ℕ) where
     unfolding resolveState pick typedOf outcome causeOf
     state-unknown q = rw (state-test ∙ q)
 
+-- a declared type, of an expression that ends at next
+module _ (s : List ℕ) (at next : ℕ) where
+  typed-as : (t : ExprType) (τ : Ty) → tyOf s τ ≡ t → typedOf s (Is τ next) ≡ good t next
+  unfolding typedOf
+  typed-as t τ h = ap (λ (z : ExprType). good z next) h
+
+  module _ {a : Answer} (e : a ≡ answer (readNumber maxU32 s at)) where
+    pub typed-width-is : {w : ℕ} {c : Cursor} → a ≡ Got w c → typedOf s (Is (ty.Bit w) next) ≡ good (widthType (readNumber maxU32 s at)) next
+    typed-width-is q = typed-as _ _ (width-is s at e q)
+
+    pub typed-width-none : {f : Fault} {p : ℕ} → a ≡ Refused f p → typedOf s (Is ty.Bool next) ≡ good (widthType (readNumber maxU32 s at)) next
+    typed-width-none q = typed-as _ _ (width-none s at e q)
+
+  module _ {a : Tagged} (e : a ≡ taggedOf (readTag s at)) where
+    abbrev Declared : Typed → Type 0
+    Declared r = typedOf s r ≡ good (exprTypeAt s at) next
+
+    pub typed-none : {f : Fault} {p : ℕ} → a ≡ tagged.Refused f p → Declared (Is ty.Bool next)
+    typed-none q = typed-as _ _ (type-none s at e q)
+
+    module _ {t : Tag} {c : Cursor} (q : a ≡ tagged.Case t c) where
+      pub typed-width : (r : Typed) → t .case ≡ 1 → typedOf s r ≡ good (widthType (readNumber maxU32 s (c .at))) next → Declared r
+      typed-width r k g = g ∙ ap (λ (z : ExprType). good z next) (case-width s at e q k)
+
+      pub typed-enum : t .case ≡ 2 → Declared (Is (ty.Enum (c .at)) next)
+      typed-enum k = typed-as _ _ (type-enum s at e q k)
+
+      pub typed-bool : t .case ≡ 0 → Declared (Is ty.Bool next)
+      typed-bool k = typed-as _ _ (type-bool s at e q k)
+
+      pub typed-beyond : (t .case ≡ 1 → ⊥) → (t .case ≡ 2 → ⊥) → Declared (Is ty.Bool next)
+      typed-beyond h k = typed-as _ _ (type-beyond s at e q h k)
+
 -- a path of one name
 module _ (s names enums : List ℕ) (at next : ℕ) {x : Bool} (e : x ≡ eqName (textAt s at) stateWord) where
   abbrev Named : Typed → Type 0
@@ -90,9 +128,9 @@ module _ (s names enums : List ℕ) (at next : ℕ) {x : Bool} (e : x ≡ eqName
     search-is : f ≡ found (findIn s (textAt s at) names)
     search-is = rw t at g
 
-    pub name-found : {under : ℕ} (τ : Ty) → f ≡ At under → tyOf s τ ≡ exprTypeAt s under → Named (Is τ next)
-    unfolding resolveName pick typedOf outcome envAt typeFound firstOf orState
-    name-found τ h k = rw (sym e ∙ q, found-at _ search-is h, sym k)
+    pub name-found : {under : ℕ} (r : Typed) → f ≡ At under → typedOf s r ≡ good (exprTypeAt s under) next → Named r
+    unfolding resolveName pick outcome envAt typeFound firstOf orState
+    name-found r h k = rw (sym e ∙ q, found-at _ search-is h) k
 
     pub name-other : (r : Typed) → f ≡ Nothing → typedOf s r ≡ outcome next (resolveState (envAt s [] enums) (textAt s at)) → Named r
     unfolding resolveName pick envAt typeFound firstOf orState resolveState

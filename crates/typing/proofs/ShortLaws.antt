@@ -1,6 +1,6 @@
 -- Short items: what their first byte says of the place after them.
-use Prim.Native.Nat.{ℕ, _+_, _-_, _/_, _%_, _<_, _≤_}
-use mathlib.Core.Path.{_≡_, refl, sym, ap, _∙_}
+use Prim.Native.Nat.{ℕ, suc, _+_, _-_, _/_, _%_, _<_, _≤_}
+use mathlib.Core.Path.{_≡_, refl, sym, ap, subst}
 use mathlib.Core.List.{List}
 use native.Mathlib.Omega.{arith}
 use lib.ListN.{length, getD}
@@ -9,10 +9,12 @@ use mir.Val.{Fits}
 use borrow.Author.Tests.{lt-ltb, le-ltb, lt-leb, eq-eqb, ne-eqb}
 use Rattle.reading.specs.Read.{ok, pick}
 use Rattle.reading.specs.Head.{Hd, readHead, headWith, simple}
-use Rattle.reading.specs.Items.{inside, payload, none, more}
+use Rattle.reading.specs.Items.{inside, payload, Items, none, more}
 use Rattle.reading.proofs.Rules.{pick-true, pick-false}
 use Rattle.reading.proofs.Skips.{items-passed}
-use Rattle.typing.specs.Table.{placeAfter, afterItem, Past}
+use Rattle.typing.specs.Table.{placeAfter, Past, Ended, Stops}
+use Rattle.typing.specs.declared.table.Found.{Found}
+use Rattle.typing.specs.declared.table.Found.the-variants.{At, Nothing}
 
 module _ (s : List ℕ) (at : ℕ) (h : at < length s) where
   -- a head of one byte, and a simple value
@@ -30,30 +32,64 @@ module _ (s : List ℕ) (at : ℕ) (h : at < length s) where
       let v : getD s at 0 % 32 ≤ 22 = omega arith in
       rw (lt-leb (length s) at h, pick-false, i, le-ltb 27 (getD s at 0 % 32) j, pick-false, eq-eqb 7 7 refl, pick-true, le-ltb (getD s at 0 % 32) 20 u, pick-false, le-ltb 22 (getD s at 0 % 32) v, pick-false)
 
+  -- the first of so many items, with what it holds after it
+  item-opens : (k : ℕ) (x : Hd) {n : ℕ} → readHead s at ≡ ok x (at + 1) → payload x ≡ 0 → Items s (k + inside x) (at + 1) n → Items s (suc k) at n
+  item-opens k x {n} e p g = let w : at + 1 ≡ at + 1 + payload x = omega arith in more x (at + 1) e (subst (λ (z : ℕ). Items s (k + inside x) z n) w g)
+
   -- with nothing after the head but so many bytes
-  one-item : (x : Hd) → readHead s at ≡ ok x (at + 1) → inside x ≡ 0 → at + 1 + payload x ≤ length s → at + 1 + payload x ≡ afterItem s at
-  unfolding placeAfter
-  one-item x e i l = sym (ap placeAfter (items-passed (more {k = 0} x (at + 1) e (rw i none)) l))
+  one-item : (x : Hd) → readHead s at ≡ ok x (at + 1) → inside x ≡ 0 → at + 1 + payload x ≤ length s → Ended s at (at + 1 + payload x)
+  one-item x e i l = record { item = more {k = 0} {n = at + 1 + payload x} x (at + 1) e (rw i none); room = l }
 
   -- by the byte
-  byte-item : (x : Hd) → readHead s at ≡ ok x (at + 1) → inside x ≡ 0 → payload x ≡ 0 → at + 1 ≡ afterItem s at
+  byte-item : (x : Hd) → readHead s at ≡ ok x (at + 1) → inside x ≡ 0 → payload x ≡ 0 → Ended s at (at + 1)
   byte-item x e i p =
       let w : at + 1 + payload x ≡ at + 1 = omega arith in
-      sym w ∙ one-item x e i (omega arith)
+      subst (Ended s at) w (one-item x e i (omega arith))
 
-  module _ (each : (i : ℕ) → Fits w8 (getD s i 0)) where
-    pub past-number : getD s at 0 < 24 → Past s at (at + 1)
-    unfolding inside payload pick
-    past-number l = record { is = byte-item _ (head-one 0 (getD s at 0) (omega arith) (omega arith) (omega arith) l) refl refl; each = λ i. omega (arith, each i) }
+  ends-number : getD s at 0 < 24 → Ended s at (at + 1)
+  unfolding inside payload pick
+  ends-number l = byte-item _ (head-one 0 (getD s at 0) (omega arith) (omega arith) (omega arith) l) refl refl
 
-    pub past-empty : getD s at 0 ≡ 128 → Past s at (at + 1)
-    unfolding inside payload pick
-    past-empty l = record { is = byte-item _ (head-one 4 0 (omega arith) (omega arith) (omega arith) (omega arith)) refl refl; each = λ i. omega (arith, each i) }
+  pub stops-number : getD s at 0 < 24 → Stops s at (At (at + 1))
+  unfolding Stops
+  stops-number = ends-number
 
-    pub past-simple : 243 < getD s at 0 → getD s at 0 < 247 → Past s at (at + 1)
-    unfolding inside payload pick
-    past-simple l m = record { is = byte-item _ (head-simple l m) refl refl; each = λ i. omega (arith, each i) }
+  pub stops-empty : getD s at 0 ≡ 128 → Stops s at (At (at + 1))
+  unfolding Stops inside payload pick
+  stops-empty l = byte-item _ (head-one 4 0 (omega arith) (omega arith) (omega arith) (omega arith)) refl refl
 
-    pub past-name : 96 < getD s at 0 → getD s at 0 < 120 → getD s at 0 - 96 < length s - at → Past s at (at + 1 + (getD s at 0 - 96))
-    unfolding inside payload pick
-    past-name l m o = record { is = one-item _ (head-one 3 (getD s at 0 - 96) (omega arith) (omega arith) (omega arith) (omega arith)) refl (omega arith); each = λ i. omega (arith, each i) }
+  pub stops-simple : 243 < getD s at 0 → getD s at 0 < 247 → Stops s at (At (at + 1))
+  unfolding Stops inside payload pick
+  stops-simple l m = byte-item _ (head-simple l m) refl refl
+
+  pub stops-name : 96 < getD s at 0 → getD s at 0 < 120 → getD s at 0 - 96 < length s - at → Stops s at (At (at + 1 + (getD s at 0 - 96)))
+  unfolding Stops inside payload pick
+  stops-name l m o = one-item _ (head-one 3 (getD s at 0 - 96) (omega arith) (omega arith) (omega arith) (omega arith)) refl (omega arith)
+
+pub stops-nowhere : (s : List ℕ) (at : ℕ) → Stops s at Nothing
+unfolding Stops
+stops-nowhere s at = tt
+
+-- a case alone, and one with a short item
+module _ (s : List ℕ) (at : ℕ) (l : getD s (at + 1) 0 < 24) (h : 2 < length s - at) where
+  pub stops-case : getD s at 0 ≡ 129 → Stops s at (At (at + 2))
+  unfolding Stops inside payload pick
+  stops-case b =
+      let e = ends-number s (at + 1) (omega arith) l in
+      let w : at + 1 + 1 ≡ at + 2 = omega arith in
+      let o = item-opens s at (omega arith) 0 _ (head-one s at (omega arith) 4 1 (omega arith) (omega arith) (omega arith) (omega arith)) refl (e .item) in
+      subst (Ended s at) w (record { item = o; room = e .room })
+
+  pub stops-second : getD s at 0 ≡ 130 → (f : Found) → Stops s (at + 2) f → Stops s at f
+  unfolding Stops inside payload pick
+  stops-second b (At end) e =
+      let w : at + 2 ≡ at + 1 + 1 = omega arith in
+      let i = item-opens s (at + 1) (omega arith) 1 _ (head-one s (at + 1) (omega arith) 0 (getD s (at + 1) 0) (omega arith) (omega arith) (omega arith) l) refl (subst (λ (z : ℕ). Items s 1 z end) w (e .item)) in
+      record { item = item-opens s at (omega arith) 0 _ (head-one s at (omega arith) 4 2 (omega arith) (omega arith) (omega arith) (omega arith)) refl i; room = e .room }
+  stops-second b Nothing e = tt
+
+pub stops-past : (s : List ℕ) (at : ℕ) → ((i : ℕ) → Fits w8 (getD s i 0)) → {f : Found} {end : ℕ} → Stops s at f → f ≡ At end → Past s at end
+unfolding Stops placeAfter
+stops-past s at each {f} {end} g q =
+    let e : Ended s at end = rw q at g in
+    record { is = sym (ap placeAfter (items-passed (e .item) (e .room))); each = λ i. omega (arith, each i) }

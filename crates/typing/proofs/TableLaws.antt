@@ -146,9 +146,12 @@ module _ (s : List ℕ) (at : ℕ) where
     type-none q = rw (tag-out _ e q)
 
     module _ {t : Tag} {c : Cursor} (q : a ≡ tagged.Case t c) where
-      pub type-width : (r : Ty) → t .case ≡ 1 → tyOf s r ≡ widthType (readNumber maxU32 s (c .at)) → tyOf s r ≡ exprTypeAt s at
+      pub case-width : t .case ≡ 1 → widthType (readNumber maxU32 s (c .at)) ≡ exprTypeAt s at
       unfolding exprTypeAt caseType pick
-      type-width r k g = rw (tag-was _ e q, k) g
+      case-width k = rw (tag-was _ e q, k)
+
+      pub type-width : (r : Ty) → t .case ≡ 1 → tyOf s r ≡ widthType (readNumber maxU32 s (c .at)) → tyOf s r ≡ exprTypeAt s at
+      type-width r k g = g ∙ case-width k
 
       pub type-enum : t .case ≡ 2 → tyOf s (ty.Enum (c .at)) ≡ exprTypeAt s at
       unfolding tyOf exprTypeAt caseType pick

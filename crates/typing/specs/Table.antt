@@ -1,6 +1,6 @@
 -- Tables of places: of names and what is declared under each, as pairs of places in the document, one pair after the other.
 -- A later pair of one name replaces the earlier.
-use Prim.Native.Nat.{ℕ, zero, suc, _+_, _*_, _/_, _<_}
+use Prim.Native.Nat.{ℕ, zero, suc, _+_, _*_, _/_, _<_, _≤_}
 use mathlib.Core.Path.{_≡_}
 use mathlib.Core.List.{List, [], _∷_}
 use mathlib.Core.Bool.{Bool, true, false}
@@ -10,6 +10,7 @@ use lib.Seq.{sets}
 use lib.Dec.{eqb}
 use Rattle.reading.specs.Read.{Read, ok, refused, pick}
 use Rattle.reading.specs.Limits.{maxU32, maxList}
+use Rattle.reading.specs.Items.{Items}
 use Rattle.reading.specs.Item.{readKind, readNumber, readCount, readTag}
 use Rattle.reading.specs.Text.{Name}
 use Rattle.reading.specs.Skip.{skipItems, textAt}
@@ -32,6 +33,16 @@ afterItem s at = placeAfter (skipItems 1 s at)
 pub record Past (s : List ℕ) (at r : ℕ) : Type 0 where
   pub is : r ≡ afterItem s at
   pub each : (i : ℕ) → getD s i 0 < 256
+
+-- the item at a place ends inside the document
+pub record Ended (s : List ℕ) (at end : ℕ) : Type 0 where
+  pub item : Items s 1 at end
+  pub room : end ≤ length s
+
+-- where it ends, if that is told
+unfoldable pub Stops : List ℕ → ℕ → Found → Type 0
+Stops s at (At end) = Ended s at end
+Stops s at Nothing = Unit {0}
 
 -- the place after the head of the record at a place
 abbrev pub afterHead : List ℕ → ℕ → ℕ

@@ -7,6 +7,7 @@ use crate::fill::after_head;
 use crate::rules::Fit;
 use crate::rules::compatible_with;
 use crate::table::after;
+use crate::table::after_case;
 use crate::table::ty_at;
 ghost use Rattle.typing.specs.Table.{envAt};
 ghost use Rattle.typing.specs.Arguments.{AcceptsTyped, AcceptsArg};
@@ -72,7 +73,7 @@ pub(crate) fn judge_args<'a>(
             return b;
         };
         k = next;
-        f = after(doc, ty);
+        f = after_case(doc, ty);
         left -= 1;
     }
     Blame::Nothing

@@ -10,6 +10,7 @@ use crate::names::same;
 use crate::pattern::pattern_expr_compatible;
 use crate::rules::Fit;
 use crate::table::after;
+use crate::table::after_case;
 use reading::text_at;
 ghost use Prim.Native.Nat.{_+_};
 ghost use mathlib.Core.Path.{_≡_};
@@ -163,8 +164,8 @@ pub(crate) fn judge_fields(
         let Blame::Nothing = blame else {
             return Bindings { blame, words: j };
         };
-        p = after(doc, own.under);
-        f = after(doc, decl.under);
+        p = after_case(doc, own.under);
+        f = after_case(doc, decl.under);
         i += 1;
     }
     Bindings {

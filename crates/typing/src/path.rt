@@ -7,21 +7,23 @@ use crate::table::after;
 use crate::table::after_any;
 use crate::table::find;
 use crate::table::has_name;
-use crate::table::ty_at;
 use crate::ty::Ty;
 use reading::Answer;
 use reading::Cursor;
+use reading::Tagged;
 use reading::text_at;
 ghost use mathlib.Core.Path.{_≡_};
 ghost use mathlib.Core.List.{[]};
+ghost use Rattle.reading.specs.Item.{readNumber};
+ghost use Rattle.reading.specs.Limits.{maxU32};
 ghost use Rattle.reading.specs.Expr.{readPath};
 ghost use Rattle.reading.specs.Skip.{textAt};
 ghost use Rattle.typing.specs.Env.{stateVariants};
 ghost use Rattle.typing.specs.Typing.{resolveState, resolveName, resolveVariant};
-ghost use Rattle.typing.specs.Means.{typedOf, outcome};
+ghost use Rattle.typing.specs.Means.{good, typedOf, outcome};
 ghost use Rattle.typing.specs.Tells.{Ends};
 ghost use Rattle.typing.specs.Typed.{Resolves};
-ghost use Rattle.typing.specs.Table.{afterItem, envAt};
+ghost use Rattle.typing.specs.Table.{afterItem, widthType, exprTypeAt, envAt};
 
 // Whether a name is a variant of the last enum called State.
 pub(crate) fn state_variant<'a>(doc: &'a [u8], enums: &'a [usize], name: &'a [u8]) -> bool
@@ -44,6 +46,36 @@ pub(crate) fn resolve_state<'a>(doc: &'a [u8], at: usize, next: usize, enums: &'
     Typed::Fails(Cause::UnknownIdentifier(at))
 }
 
+// The type of a width at a place, of an expression that ends at `next`.
+fn typed_width(doc: &[u8], at: usize, next: usize) -> Typed
+    ensures { λ r. ⌜ typedOf (now (doc .entry)) r ≡ good (widthType (readNumber maxU32 (now (doc .entry)) at)) next ⌝ }
+{
+    let c = Cursor { at };
+    let r = c.number(doc, 4294967295);
+    let Answer::Got(w, _) = r else {
+        return Typed::Is(Ty::Bool, next);
+    };
+    Typed::Is(Ty::Bit(w as u32), next)
+}
+
+// The declared type at a place, of an expression that ends at `next`.
+fn typed_at(doc: &[u8], at: usize, next: usize) -> Typed
+    ensures { λ r. ⌜ typedOf (now (doc .entry)) r ≡ good (exprTypeAt (now (doc .entry)) at) next ⌝ }
+{
+    let c = Cursor { at };
+    let r = c.tag(doc);
+    let Tagged::Case(tag, under) = r else {
+        return Typed::Is(Ty::Bool, next);
+    };
+    let case = tag.case;
+    match case {
+        0 => Typed::Is(Ty::Bool, next),
+        1 => typed_width(doc, under.at, next),
+        2 => Typed::Is(Ty::Enum(under.at), next),
+        3..=u64::MAX => Typed::Is(Ty::Bool, next),
+    }
+}
+
 // A path of one name: `state` first, then bindings and variables, then variants.
 pub(crate) fn resolve_name<'a>(
     doc: &'a [u8],
@@ -59,7 +91,7 @@ pub(crate) fn resolve_name<'a>(
     }
     let f = find(doc, names, text_at(doc, at));
     match f {
-        Found::At(under) => Typed::Is(ty_at(doc, under), next),
+        Found::At(under) => typed_at(doc, under, next),
         Found::Nothing => resolve_state(doc, at, next, enums),
     }
 }

@@ -11,7 +11,7 @@ ghost use mathlib.Core.Path.{_≡_};
 ghost use Rattle.reading.specs.Item.{readNumber};
 ghost use Rattle.reading.specs.Limits.{maxU32};
 ghost use Rattle.typing.specs.Means.{tyOf};
-ghost use Rattle.typing.specs.Table.{Past, findIn, found, widthType, exprTypeAt, memberAt};
+ghost use Rattle.typing.specs.Table.{Past, Stops, findIn, found, widthType, exprTypeAt, memberAt};
 
 // What stands under a name: its place.
 pub enum Found {
@@ -31,33 +31,76 @@ pub(crate) fn after_any(doc: &[u8], at: usize) -> usize
     }
 }
 
-// The place after the item at a place: short ones, a number, an empty list, a simple value and a name, by their first byte.
-pub fn after(doc: &[u8], at: usize) -> usize
-    ensures { λ r. ⌜ Past (now (doc .entry)) at r ⌝ }
+// Where a short item ends, by its first byte: a number, an empty list, a simple value or a name.
+fn short_end(doc: &[u8], at: usize) -> Found
+    ensures { λ r. ⌜ Stops (now (doc .entry)) at r ⌝ }
 {
     if at < doc.len() {
         let b = doc[at];
         if b < 24 {
-            return at + 1;
+            return Found::At(at + 1);
         }
         if b == 128 {
-            return at + 1;
+            return Found::At(at + 1);
         }
         if 243 < b {
             if b < 247 {
-                return at + 1;
+                return Found::At(at + 1);
             }
         }
         if 96 < b {
             if b < 120 {
                 let n = (b - 96) as usize;
                 if n < doc.len() - at {
-                    return at + 1 + n;
+                    return Found::At(at + 1 + n);
                 }
             }
         }
     }
-    after_any(doc, at)
+    Found::Nothing
+}
+
+// The place after the item at a place: most are short.
+pub fn after(doc: &[u8], at: usize) -> usize
+    ensures { λ r. ⌜ Past (now (doc .entry)) at r ⌝ }
+{
+    let e = short_end(doc, at);
+    match e {
+        Found::At(end) => end,
+        Found::Nothing => after_any(doc, at),
+    }
+}
+
+// The same of a short data enum: a case alone, or a case and a short item.
+fn case_end(doc: &[u8], at: usize) -> Found
+    ensures { λ r. ⌜ Stops (now (doc .entry)) at r ⌝ }
+{
+    let len = doc.len();
+    if at < len {
+        if 2 < len - at {
+            let b = doc[at];
+            if doc[at + 1] < 24 {
+                if b == 129 {
+                    return Found::At(at + 2);
+                }
+                if b == 130 {
+                    return short_end(doc, at + 2);
+                }
+            }
+        }
+    }
+    Found::Nothing
+}
+
+// The place after the data enum at a place: most are short.
+pub(crate) fn after_case(doc: &[u8], at: usize) -> usize
+    ensures { λ r. ⌜ Past (now (doc .entry)) at r ⌝ }
+{
+    let e = case_end(doc, at);
+    match e {
+        Found::At(end) => end,
+        Found::Nothing => after_any(doc, at),
+    }
 }
 
 // What stands under a name in a table: the last.
