@@ -2,7 +2,7 @@
 use Prim.Native.Nat.{ℕ, zero, suc, _+_, _-_, _*_, _/_, _%_, _<_, _≤_}
 use native.Mathlib.Numerals.{sub-one}
 use native.Mathlib.Omega.{arith}
-use mathlib.Core.Path.{_≡_, refl, _∙_}
+use mathlib.Core.Path.{_≡_, refl, ap, _∙_}
 use mathlib.Core.Bool.{Bool, true, false}
 use mathlib.Core.List.{List, [], _∷_, _++_}
 use lib.Dec.{ltb}
@@ -24,6 +24,14 @@ pub digits-more : (k n : ℕ) {b : ℕ} → (k ≡ 0 → ⊥) → 10 ≤ n → b
 unfolding digits
 digits-more zero n z h e = absurd (z refl)
 digits-more (suc k) n z h e = rw (le-ltb n 10 h, sub-one, e)
+
+-- a number of one digit, and of two
+pub decimal-one : (n : ℕ) {b : ℕ} → n < 10 → b ≡ 48 + n → decimal n ≡ b ∷ []
+decimal-one n h e = digits-one 20 n (λ z. omega arith) h e
+
+pub decimal-two : (n : ℕ) {a b : ℕ} → 10 ≤ n → n < 100 → a ≡ 48 + n / 10 → b ≡ 48 + n % 10 → decimal n ≡ (a ∷ []) ++ (b ∷ [])
+decimal-two n {a} {b} l h e f =
+    digits-more 20 n (λ z. omega arith) l f ∙ ap (λ (x : List ℕ). x ++ (b ∷ [])) (digits-one 19 (n / 10) (λ z. omega arith) (omega arith) e)
 
 examples : (decimal 0 ≡ text "0") × (decimal 255 ≡ text "255") × (decimal 18446744073709551615 ≡ text "18446744073709551615")
 unfolding digits

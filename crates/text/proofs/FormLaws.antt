@@ -61,7 +61,7 @@ unfolding format
 form-end t i as′ h = rw (drop-of-length-le t h)
 
 -- whether an argument stands there, by each test
-never : {A : Type 0} → false ≡ true → A
+pub never : {A : Type 0} → false ≡ true → A
 never e = absurd (let z : _≡_ {A = ℕ} 0 1 = cc in omega arith)
 
 pub opens-past : {t : List ℕ} {j n : ℕ} → 5 ≤ n → Opens t j n false

@@ -20,6 +20,7 @@ pub mod ErrorLaws
 pub mod ClaimLaws
 pub mod VariantLaws
 pub mod SayLaws
+pub mod PieceLaws
 pub mod WordsLaws
 pub mod ToldLaws
 pub mod FindingLaws

@@ -3,6 +3,7 @@ pub mod Form
 pub mod Shown
 pub mod Decimal
 pub mod Put
+pub mod Pieces
 pub mod Path
 pub mod CauseText
 pub mod Message

@@ -200,6 +200,12 @@ pub record ModuleAt (s : List ℕ) (k : ℕ) (r : Found) : Type 0 where
 pub record SaysWords (s : List ℕ) (owner site i j : ℕ) (r : Said) : Type 0 where
   pub of : (x : Ir) (n c : ℕ) → readDocument s ≡ ok x n → sayingText site (sayingOf s r) ≡ messageOf x (inModule owner (note site i j c))
 
+-- what is said, of which S is known, is put into o from place at on
+pub record PutsSaid (S : Said → Type 0) (s : List ℕ) (site : ℕ) (o : List ℕ) (at r : ℕ) (o′ : List ℕ) : Type 0 where
+  pub said : Said
+  pub says : S said
+  pub put : Put o at (sayingText site (sayingOf s said)) r o′
+
 -- the message of a finding is put into o from place at on, where H is known of its module
 pub record PutsFinding (H : Module → Type 0) (site i j : ℕ) (o : List ℕ) (at r : ℕ) (o′ : List ℕ) : Type 0 where
   pub of : (m : Module) → H m → Put o at (sayingText site (saying site i j m)) r o′

@@ -29,11 +29,27 @@ fn put_digits(out: &mut [u8], at: usize, left: usize, n: u64) -> usize
     put_byte(out, k, digit(n % 10))
 }
 
+// Puts a number of two digits.
+fn put_two_digits(out: &mut [u8], at: usize, n: u64) -> usize
+    requires { ⌜ (at ≤ 0xfff_ffff) × (10 ≤ n) × (n < 100) ⌝ }
+    ensures { λ r. ⌜ Put (now (out .entry)) at (decimal n) r (now (out .exit)) ⌝ }
+    ensures { λ r. ⌜ r ≤ at + 20 ⌝ }
+{
+    let k = put_byte(out, at, digit(n / 10));
+    put_byte(out, k, digit(n % 10))
+}
+
 // Puts n in decimal.
 pub(crate) fn put_decimal(out: &mut [u8], at: usize, n: u64) -> usize
     requires { ⌜ at ≤ 0xfff_ffff ⌝ }
     ensures { λ r. ⌜ Put (now (out .entry)) at (decimal n) r (now (out .exit)) ⌝ }
     ensures { λ r. ⌜ r ≤ at + 20 ⌝ }
 {
+    if n < 10 {
+        return put_byte(out, at, digit(n));
+    }
+    if n < 100 {
+        return put_two_digits(out, at, n);
+    }
     put_digits(out, at, 20, n)
 }

@@ -1,4 +1,5 @@
 // The message of a finding into lent bytes, by the tables of its module.
+use crate::pieces::put_pair_at;
 use crate::site::put_said;
 use crate::words::say_named;
 use findings::Ready;
@@ -34,6 +35,12 @@ pub fn put_finding<'a>(
     ensures { λ _. ⌜ length (now (out .exit)) ≡ length (now (out .entry)) ⌝ }
     ensures { λ r. ⌜ r ≤ at + 0x7b_0000 ⌝ }
 {
+    if site == 15 {
+        return put_pair_at(doc, places, rows, count, site, i, j, out, at);
+    }
+    if site == 24 {
+        return put_pair_at(doc, places, rows, count, site, i, j, out, at);
+    }
     let x = say_named(
         doc,
         places,

@@ -12,6 +12,7 @@ mod form;
 mod out;
 mod pair;
 mod path;
+mod pieces;
 mod said;
 mod say;
 mod shown;

@@ -1,0 +1,13 @@
+-- What the messages of two transitions have in common.
+use mathlib.Core.List.{List, _++_}
+use Prim.Native.Nat.{ℕ}
+use Rattle.reading.specs.Text.{Name}
+use Rattle.text.specs.Form.{text}
+
+-- in which module and state they are
+unfoldable pub inState : Name → Name → List ℕ
+inState n t = text "module '" ++ n ++ text "' state '" ++ t
+
+-- the ids of both
+unfoldable pub bothIds : List ℕ → List ℕ → List ℕ
+bothIds i j = i ++ text " and #" ++ j
