@@ -14,7 +14,7 @@ use crate::samples::{every_pair, faulty, growing, samples, Sample};
 use std::cell::RefCell;
 use std::fs;
 use std::hint::black_box;
-use std::path::Path;
+use std::path::{Path, PathBuf};
 use std::process::Command;
 use std::time::Instant;
 
@@ -167,52 +167,63 @@ const TYPING_ROUNDS: usize = 101;
 /// One run of the program takes about this long, beside its start.
 const RUN_NANOSECONDS: f64 = 10_000_000.0;
 
-/// The program `causes` on each sample, reading and typing in turn, so many
-/// times in one run; each sample has a folder in `dir`.
+/// The program `causes` on each sample: reading, typing, and judging the
+/// patterns alone, in turn, so many times in one run; each sample has two
+/// folders in `dir`.
 pub fn typing(program: &Path, dir: &Path) -> Result<(), String> {
-    let failed = |e: std::io::Error| format!("{}: {e}", dir.display());
     let found = program.canonicalize();
     let program = found.map_err(|e| format!("{}: {e}", program.display()))?;
     for sample in samples() {
-        let dir = &dir.join(sample.name);
-        fs::create_dir_all(dir).map_err(failed)?;
         let ir = decode(&sample.bytes).expect("a sample is accepted");
-        let record = causes::record(&ir).typed();
-        let file = causes::file(std::slice::from_ref(&record));
-        fs::write(dir.join(causes::FILE), file).map_err(failed)?;
-        let run = |mode: &str, times: u32| run(&program, dir, mode, times);
-        typing_line(&sample, record.steps.len(), run)?;
+        let all = causes::record(&ir).typed();
+        let steps = all.steps.len();
+        let whole = folder(&dir.join(sample.name), all)?;
+        let patterns = causes::record(&ir).patterns();
+        let patterns = folder(&dir.join(format!("{}-patterns", sample.name)), patterns)?;
+        let runs = [("read", &whole), ("type", &whole), ("type", &patterns)];
+        let run = |k: usize, times: u32| run(&program, runs[k].1, runs[k].0, times);
+        typing_line(&sample, steps, run)?;
     }
     Ok(())
+}
+
+/// A folder with one record, for the program.
+fn folder(dir: &Path, record: causes::Record) -> Result<PathBuf, String> {
+    let failed = |e: std::io::Error| format!("{}: {e}", dir.display());
+    fs::create_dir_all(dir).map_err(failed)?;
+    let file = causes::file(std::slice::from_ref(&record));
+    fs::write(dir.join(causes::FILE), file).map_err(failed)?;
+    Ok(dir.to_path_buf())
 }
 
 /// The fastest of many runs of each, less the fastest that does nothing.
 fn typing_line(
     sample: &Sample,
     steps: usize,
-    run: impl Fn(&str, u32) -> Result<f64, String>,
+    run: impl Fn(usize, u32) -> Result<f64, String>,
 ) -> Result<(), String> {
-    const MODES: [&str; 2] = ["read", "type"];
-    let mut calls = [0; 2];
-    for (mode, calls) in MODES.iter().zip(&mut calls) {
-        run(mode, 100)?;
-        *calls = (RUN_NANOSECONDS / run(mode, 100)? * 100.0) as u32 + 1;
+    let mut calls = [0; 3];
+    for (k, calls) in calls.iter_mut().enumerate() {
+        run(k, 100)?;
+        *calls = (RUN_NANOSECONDS / run(k, 100)? * 100.0) as u32 + 1;
     }
     let mut start = f64::MAX;
-    let mut fastest = [f64::MAX; 2];
+    let mut fastest = [f64::MAX; 3];
     for _ in 0..TYPING_ROUNDS {
-        start = start.min(run("read", 0)?);
-        for ((mode, calls), fastest) in MODES.iter().zip(calls).zip(&mut fastest) {
-            *fastest = fastest.min(run(mode, calls)?);
+        start = start.min(run(0, 0)?);
+        for (k, (calls, fastest)) in calls.iter().zip(&mut fastest).enumerate() {
+            *fastest = fastest.min(run(k, *calls)?);
         }
     }
-    let read = (fastest[0] - start) / f64::from(calls[0]);
-    let typed = (fastest[1] - start) / f64::from(calls[1]);
+    let each = |k: usize| (fastest[k] - start) / f64::from(calls[k]);
+    let (read, typed, patterns) = (each(0), each(1), each(2));
     println!(
-        "{:<6} {:>6} bytes, {steps:>5} steps: read {read:>9.0} ns, type {typed:>9.0} ns, type/read {:.2}",
+        "{:<6} {:>6} bytes, {steps:>5} steps: read {read:>7.0} ns, type {typed:>7.0} ns, {:.2} of that; patterns alone {patterns:>6.0} ns, so expressions {:>6.0} ns, {:.2}",
         sample.name,
         sample.bytes.len(),
-        typed / read
+        typed / read,
+        typed - patterns,
+        (typed - patterns) / read
     );
     Ok(())
 }

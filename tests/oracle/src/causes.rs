@@ -333,6 +333,14 @@ impl Record {
         self
     }
 
+    /// Those of them that come before an expression is typed: the lists of a
+    /// module, and the patterns, which bind.
+    pub fn patterns(mut self) -> Record {
+        self.steps
+            .retain(|step| step.kind <= Kind::Outputs || step.kind == Kind::Pattern);
+        self
+    }
+
     /// Its bytes in the file.
     fn file_bytes(&self) -> usize {
         8 + self.bytes.len() + 4 * self.steps.len()
