@@ -269,11 +269,12 @@ pub fn program(path: &Path, count: usize, seed: u64) -> Result<bool, String> {
 }
 
 /// A document of any kind and size. Some have nearly as many findings as the
-/// words hold, or a few more.
+/// words hold, or a few more; some are of the length, or have as many
+/// findings, up to which a program may do with less memory.
 fn any(rng: &mut Rng, source: &mut Source, number: usize) -> Vec<u8> {
     match number % 200 {
         0 => whole::bulky(rng).bytes,
-        1 => encode(&alike(rng.of(&[80, 81, 82, 83, 255]))),
+        1 => encode(&alike(rng.of(&[20, 21, 80, 81, 82, 83, 255]))),
         2 => whole::crowded(rng).bytes,
         3 => {
             let list = rng.of(&limits::LISTS);
@@ -282,6 +283,11 @@ fn any(rng: &mut Rng, source: &mut Source, number: usize) -> Vec<u8> {
         4 => {
             let base = whole::small(rng).bytes;
             unborn(rng, &base)
+        }
+        5 => {
+            let mut ir = alike(rng.between(1, 40));
+            limits::fill(&mut ir, rng.between(4_094, 4_098));
+            encode(&ir)
         }
         _ => match rng.below(4) {
             0 => source.next().bytes,
