@@ -3,6 +3,7 @@ pub mod Cycle
 pub mod SheetLaws
 pub mod NoteLaws
 pub mod RowLaws
+pub mod MoveLaws
 pub mod EachLaws
 pub mod SceneLaws
 pub mod ClaimTables

@@ -1,5 +1,5 @@
 -- The walk's marks: each step keeps what is queued, and at the end the marks are closed under steps, with a chain to each.
-use Prim.Native.Nat.{ℕ, zero, suc, _+_, _<_, _≤_}
+use Prim.Native.Nat.{ℕ, zero, suc, _+_, _*_, _<_, _≤_}
 use mathlib.Core.Path.{_≡_, refl, sym, ap, subst, _∙_}
 use mathlib.Core.Logic.{_⊎_, inl, inr}
 use mathlib.Core.Bool.{Bool, true, false, cond}
@@ -14,11 +14,14 @@ use Rattle.reading.specs.Skip.{textAt}
 use Rattle.reading.proofs.Rules.{by}
 use Rattle.reading.proofs.Walks.{name-text}
 use Rattle.typing.specs.Names.{eqName}
+use Rattle.typing.proofs.NameLaws.{eqName-eq}
 use Rattle.reading.specs.Transition.{Transition}
 use Rattle.findings.specs.Scene.{field, RowAt}
+use Rattle.findings.specs.Prints.{print}
 use Rattle.findings.specs.PairPromises.{LeadsTo, LeadsOn}
 use Rattle.findings.specs.Reaching.{Taken, free, Queued, Stepped, stays, takes, Swept, Chained, first, next, Walked, BeginsAt}
 use Rattle.findings.proofs.TouchLaws.{last-or-before}
+use Rattle.findings.proofs.PairTests.{isn't}
 
 same-or-not : (a b : ℕ) → (a ≡ b) ⊎ (a ≡ b → ⊥)
 same-or-not a b = go (eqb a b) refl
@@ -181,8 +184,13 @@ module _ (T : ℕ → Bool → Type 0) (i : ℕ) (m q : List ℕ) (t : ℕ) wher
     pub step-yes : {m′ q′ : List ℕ} {t′ : ℕ} → b ≡ true → getD m i 0 ≡ 0 → m′ ≡ set m i 1 → q′ ≡ set q t i → t′ ≡ t + 1 → Stepped T i m q t m′ q′ t′
     step-yes e z a c d = takes z (subst (T i) e y) a c d
 
-pub starts-at : (s rows : List ℕ) (w : Name) (i : ℕ) {at : ℕ} {text : Name} {b : Bool} → at ≡ field rows i 1 → text ≡ textAt s at → b ≡ eqName text w → BeginsAt s rows w i b
-starts-at s rows w i e t q = record { of = λ u g. q ∙ ap (λ (x : Name). eqName x w) (t ∙ ap (textAt s) e ∙ name-text s (field rows i 1) (u .state) (field rows i 2) (g .state-is)) }
+pub starts-at : (s rows prints : List ℕ) (w : Name) (i : ℕ) {at : ℕ} {text : Name} {b : Bool} → at ≡ field rows i 1 → text ≡ textAt s at → b ≡ eqName text w → BeginsAt s rows prints w i b
+starts-at s rows prints w i e t q = record { of = λ u g p. q ∙ ap (λ (x : Name). eqName x w) (t ∙ ap (textAt s) e ∙ name-text s (field rows i 1) (u .state) (field rows i 2) (g .state-is)) }
+
+pub starts-apart : (s rows prints : List ℕ) (w : Name) (i : ℕ) (m q : List ℕ) (t : ℕ) {code : ℕ} → code ≡ print 0 w → (getD prints (3 * i) 0 ≡ code → ⊥) → Stepped (BeginsAt s rows prints w) i m q t m q t
+starts-apart s rows prints w i m q t e d =
+    let z : 3 * i ≡ 3 * i + 0 = omega arith in
+    stays (inr (record { of = λ u g p. isn't (eqName (u .state) w) (λ y. d (ap (λ (k : ℕ). getD prints k 0) z ∙ p .state-is ∙ ap (print 0) (eqName-eq (u .state) w y) ∙ sym e)) })) refl refl refl
 
 -- the walk: the first head places of the queue are followed
 module _ (T : ℕ → Bool → Type 0) (U : ℕ → ℕ → Bool → Type 0) (count : ℕ) where

@@ -1,14 +1,15 @@
 -- The variants that patterns of a group use: what each pattern adds, and what the answers say.
-use Prim.Native.Nat.{ℕ, zero, suc, _+_, _<_, _≤_}
+use Prim.Native.Nat.{ℕ, zero, suc, _+_, _-_, _<_, _≤_}
 use mathlib.Core.Path.{_≡_, refl, sym, ap, subst, _∙_}
 use mathlib.Core.Logic.{_⊎_, inl, inr}
 use mathlib.Core.Bool.{Bool, true, false, _&&_, _||_}
 use mathlib.Core.List.{List, [], _∷_, _++_, map, append-assoc, append-nil}
 use mathlib.Core.Option.{none, some}
 use native.Mathlib.Omega.{arith}
+use borrow.Author.Tests.{ltb-true, ltb-false}
 use lib.ListN.{length, getD, getElem?, set, drop, length-append, drop-of-length-le}
 use lib.Seq.{getD-set-same, getD-set-other}
-use lib.Dec.{eqb}
+use lib.Dec.{eqb, ltb}
 use Rattle.reading.specs.Read.{pick, Read}
 use Rattle.reading.specs.Limits.{maxList}
 use Rattle.reading.specs.Text.{Name}
@@ -19,7 +20,7 @@ use Rattle.reading.specs.Transition.{Transition}
 use Rattle.reading.specs.Skip.{textAt}
 use Rattle.reading.specs.Views.{PatternVariantAt, unit-pattern, struct-pattern}
 use Rattle.reading.specs.declared.item.Tag.{Tag}
-use Rattle.reading.proofs.Rules.{no}
+use Rattle.reading.proofs.Rules.{no, by}
 use Rattle.reading.proofs.ExprLaws.{name-laws}
 use Rattle.reading.proofs.Views.{pattern-at}
 use Rattle.reading.proofs.CaseViews.{pattern-variant-at}
@@ -38,7 +39,7 @@ use Rattle.findings.specs.Lists.{each}
 use Rattle.findings.specs.Scene.{Reads, field, Rows}
 use Rattle.findings.specs.Prints.{print}
 use Rattle.findings.specs.Classes.{Tabled}
-use Rattle.findings.specs.Uses.{variantNames, isBare, patternNames, patternBare, namedBy, bareBy, NamesAt, VariantsAt, variants-here, variants-none, AddsVariant, AddsUse, GroupPrint, UsesOf, IsNamed, HasVariant, IsUsed}
+use Rattle.findings.specs.Uses.{variantNames, isBare, patternNames, patternBare, namedBy, bareBy, NamesAt, VariantsAt, variants-here, variants-none, AddsVariant, AddsUse, GroupPrint, NextMarked, UsesOf, IsNamed, HasVariant, IsUsed}
 use Rattle.findings.specs.declared.uses.Uses.{Uses}
 use Rattle.findings.proofs.EachLaws.{get-some, drop-get}
 use Rattle.findings.proofs.OptionLaws.{not-given, is-given}
@@ -137,15 +138,23 @@ module _ (s : List ℕ) (at : ℕ) (g : Name) (table : List ℕ) (u : Uses) {nam
 pub group-print : (s rows : List ℕ) (i : ℕ) {at name : ℕ} {text : Name} {r : ℕ} → at ≡ field rows i 2 → name ≡ afterHead s at → text ≡ textAt s name → r ≡ print 0 text → GroupPrint s rows i r
 group-print s rows i e h t q = q ∙ ap (print 0) (t ∙ ap (textAt s) (h ∙ ap (afterHead s) e))
 
-pub print-of : (s rows marks : List ℕ) (count i : ℕ) → Tabled (GroupPrint s rows) count marks → i < count → GroupPrint s rows i (getD marks i 0)
-print-of s rows marks count i m h = m .each i h
+-- the places passed while a mark is looked for
+pub marked-start : (marks : List ℕ) (mark from : ℕ) → NextMarked marks mark from from
+marked-start marks mark from = record { low = omega arith; passed = λ j a b. absurd (omega arith) }
+
+pub marked-more : {marks : List ℕ} {mark from i : ℕ} → NextMarked marks mark from i → (getD marks i 0 ≡ mark → ⊥) → NextMarked marks mark from (i + 1)
+marked-more {marks} {mark} {i = i} w d = record {
+  low = let z = w .low in omega arith;
+  passed = λ j a b q.
+      by (ltb j i) (λ z. w .passed j a (ltb-true j i z) q) (λ z.
+      let y = ltb-false j i z in
+      let e : j ≡ i = omega arith in
+      d (ap (λ (k : ℕ). getD marks k 0) (sym e) ∙ q));
+}
 
 -- another print tells another group
-pub use-apart : (s rows : List ℕ) (i : ℕ) (g : Name) (table : List ℕ) (u : Uses) {x mark : ℕ} → GroupPrint s rows i x → mark ≡ print 0 g → (x ≡ mark → ⊥) → AddsUse s (field rows i 2) g table u table u
+use-apart : (s rows : List ℕ) (i : ℕ) (g : Name) (table : List ℕ) (u : Uses) {x mark : ℕ} → GroupPrint s rows i x → mark ≡ print 0 g → (x ≡ mark → ⊥) → AddsUse s (field rows i 2) g table u table u
 use-apart s rows i g table u p e d = use-other s (field rows i 2) g table u refl refl refl (sym (isn't _ (λ y. d (p ∙ ap (print 0) (eqName-eq _ g y) ∙ sym e))))
-
-pub use-at : {s : List ℕ} (rows : List ℕ) (i : ℕ) {at : ℕ} {g : Name} {table : List ℕ} {u : Uses} {table′ : List ℕ} {u′ : Uses} → at ≡ field rows i 2 → AddsUse s at g table u table′ u′ → AddsUse s (field rows i 2) g table u table′ u′
-use-at rows i e a = rw e at a
 
 -- the patterns from number i on are still to be added
 module _ (s rows : List ℕ) (count : ℕ) (g : Name) where
@@ -154,7 +163,7 @@ module _ (s rows : List ℕ) (count : ℕ) (g : Name) where
     pub names : (ts : List Transition) → Rows s rows ts → count ≡ length ts → (ns : List Name) × NamesAt s table (u .named) ns × (ns ++ namedBy g (drop i ts) ≡ namedBy g ts)
     pub bare : (ts : List Transition) → Rows s rows ts → count ≡ length ts → (u .bare || bareBy g (drop i ts)) ≡ bareBy g ts
 
-  pub uses-start : (table : List ℕ) → UsesLeft table 0 (record { named = 0; bare = false })
+  uses-start : (table : List ℕ) → UsesLeft table 0 (record { named = 0; bare = false })
   uses-start table = record {
     few = omega arith;
     names = λ ts w q. ([], record { many = refl; at = λ k x e. no (cc) }, refl);
@@ -166,7 +175,7 @@ module _ (s rows : List ℕ) (count : ℕ) (g : Name) where
   or-or false b c = refl
 
   module _ (table : List ℕ) (i : ℕ) (u : Uses) (l : UsesLeft table i u) where
-    pub uses-more : {table′ : List ℕ} {u′ : Uses} → i < count → AddsUse s (field rows i 2) g table u table′ u′ → UsesLeft table′ (i + 1) u′
+    uses-more : {table′ : List ℕ} {u′ : Uses} → i < count → AddsUse s (field rows i 2) g table u table′ u′ → UsesLeft table′ (i + 1) u′
     uses-more {table′} {u′} h a = record {
       few = let x = a .few in let y = l .few in omega arith;
       names = λ ts w q.
@@ -190,6 +199,27 @@ module _ (s rows : List ℕ) (count : ℕ) (g : Name) where
       names = λ ts w q. let v = l .names ts w q in named-as s table (u .named) (namedBy g ts) (sym (append-nil (v .0)) ∙ ap (λ (x : List Transition). v .0 ++ namedBy g x) (sym (drop-of-length-le ts {i = i} (omega arith))) ∙ v .2) (v .1);
       bare = λ ts w q. or-false (u .bare) ∙ ap (λ (x : List Transition). u .bare || bareBy g x) (sym (drop-of-length-le ts {i = i} (omega arith))) ∙ l .bare ts w q;
     }
+
+  -- and on to the next mark
+  module _ (marks : List ℕ) {mark : ℕ} (m : Tabled (GroupPrint s rows) count marks) (e : mark ≡ print 0 g) where
+    uses-skip : {table : List ℕ} {i r : ℕ} {u : Uses} → UsesLeft table i u → NextMarked marks mark i r → r ≤ count → UsesLeft table r u
+    uses-skip {table} {i} {r} {u} l w h =
+        let z = w .low in
+        let q : i + (r - i) ≡ r = omega arith in
+        subst (λ (k : ℕ). UsesLeft table k u) q (go (r - i) i l (λ j a b. w .passed j a (omega arith)) (omega arith))
+      where
+        go : (d k : ℕ) → UsesLeft table k u → ((j : ℕ) → k ≤ j → j < k + d → getD marks j 0 ≡ mark → ⊥) → k + d ≤ count → UsesLeft table (k + d) u
+        go zero k x p b = let q : k ≡ k + 0 = omega arith in subst (λ (n : ℕ). UsesLeft table n u) q x
+        go (suc d) k x p b =
+            let q : k + 1 + d ≡ k + suc d = omega arith in
+            let y = uses-more table k u x (omega arith) (use-apart s rows k g table u (m .each k (omega arith)) e (p k (omega arith) (omega arith))) in
+            subst (λ (n : ℕ). UsesLeft table n u) q (go d (k + 1) y (λ j a c. p j (omega arith) (omega arith)) (omega arith))
+
+    pub uses-first : (table : List ℕ) {r : ℕ} → NextMarked marks mark 0 r → r ≤ count → UsesLeft table r (record { named = 0; bare = false })
+    uses-first table w b = uses-skip (uses-start table) w b
+
+    pub uses-turn : {table : List ℕ} {i : ℕ} {u : Uses} {at : ℕ} {table′ : List ℕ} {u′ : Uses} {r : ℕ} → UsesLeft table i u → i < count → at ≡ field rows i 2 → AddsUse s at g table u table′ u′ → NextMarked marks mark (i + 1) r → r ≤ count → UsesLeft table′ r u′
+    uses-turn {table} {i} {u} l h q a w b = uses-skip (uses-more table i u l h (rw q at a)) w b
 
 -- a name among those whose places stand in a table
 module _ (s table : List ℕ) (count : ℕ) (w : Name) where

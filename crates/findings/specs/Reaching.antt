@@ -18,6 +18,7 @@ use Rattle.findings.specs.Lists.{Placed, placed, any, each}
 use Rattle.findings.specs.Finding.{Note, note, noted}
 use Rattle.findings.specs.Noting.{Noted}
 use Rattle.findings.specs.Scene.{Reads, RowAt, Rows, StatesAt}
+use Rattle.findings.specs.Prints.{print, PrintOf, Prints}
 use Rattle.findings.specs.Promises.{at-place}
 
 abbrev pub Taken : List ℕ → ℕ → Type 0
@@ -67,8 +68,8 @@ module _ (T : ℕ → Bool → Type 0) (U : ℕ → ℕ → Bool → Type 0) (co
     pub sound : (j : ℕ) → j < count → Taken m j → Chained j
 
 -- whether transition j starts at a name
-pub record BeginsAt (s rows : List ℕ) (w : Name) (j : ℕ) (r : Bool) : Type 0 where
-  pub of : (u : Transition) → RowAt s rows j u → r ≡ eqName (u .state) w
+pub record BeginsAt (s rows prints : List ℕ) (w : Name) (j : ℕ) (r : Bool) : Type 0 where
+  pub of : (u : Transition) → RowAt s rows j u → PrintOf prints j u → r ≡ eqName (u .state) w
 
 -- the names that are reached: the first, and those to which what is taken leads
 abbrev pub hitBy : List ℕ → Name → Placed Transition → Bool
@@ -77,29 +78,31 @@ hitBy m n x = not (eqb (getD m (x .place) 0) 0) && eqName (x .item .next-state) 
 abbrev pub ledTo : List ℕ → List Transition → Name → Name → Bool
 ledTo m ts w n = eqName w n || any (hitBy m n) (placed 0 ts)
 
-module _ (s rows m : List ℕ) where
-  pub record IsHit (n : Name) (i : ℕ) (r : Bool) : Type 0 where
-    pub of : (u : Transition) → RowAt s rows i u → r ≡ hitBy m n (at-place i u)
+module _ (s rows prints m : List ℕ) where
+  -- of the name at key, which has print p
+  pub record IsHit (key p i : ℕ) (r : Bool) : Type 0 where
+    pub of : (u : Transition) → RowAt s rows i u → PrintOf prints i u → p ≡ print 0 (textAt s key) → r ≡ hitBy m (textAt s key) (at-place i u)
 
   pub record IsLed (count at key : ℕ) (r : Bool) : Type 0 where
-    pub of : (ts : List Transition) → Rows s rows ts → count ≡ length ts → r ≡ ledTo m ts (textAt s at) (textAt s key)
+    pub of : (ts : List Transition) → Rows s rows ts → Prints prints ts → count ≡ length ts → r ≡ ledTo m ts (textAt s at) (textAt s key)
 
 -- what is known of transitions
-pub record Moves (s rows : List ℕ) (count : ℕ) : Type 0 where
+pub record Moves (s rows prints : List ℕ) (count : ℕ) : Type 0 where
   pub transitions : List Transition
   pub rows-are : Rows s rows transitions
+  pub prints-are : Prints prints transitions
   pub many : count ≡ length transitions
 
-abbrev pub unledNote : {s rows : List ℕ} {count : ℕ} (m : List ℕ) → Name → Moves s rows count → Placed Name → List Note
+abbrev pub unledNote : {s rows prints : List ℕ} {count : ℕ} (m : List ℕ) → Name → Moves s rows prints count → Placed Name → List Note
 unledNote m w h v = noted (not (ledTo m (h .transitions) w (v .item))) (note 21 (v .place) 0 0)
 
 -- a name that is not reached, those of a list, and those of the State variants
-module _ (s : List ℕ) (owner : ℕ) (o : List ℕ) (skip n r : ℕ) (o′ : List ℕ) (rows : List ℕ) (count : ℕ) (m : List ℕ) (at : ℕ) where
+module _ (s : List ℕ) (owner : ℕ) (o : List ℕ) (skip n r : ℕ) (o′ : List ℕ) (rows prints : List ℕ) (count : ℕ) (m : List ℕ) (at : ℕ) where
   pub record NotesUnled (key j : ℕ) : Type 0 where
-    pub of : (h : Moves s rows count) (w : Name) → Reads readName s key w → Noted owner o skip n (unledNote m (textAt s at) h (at-place j w)) r o′
+    pub of : (h : Moves s rows prints count) (w : Name) → Reads readName s key w → Noted owner o skip n (unledNote m (textAt s at) h (at-place j w)) r o′
 
   pub record NotesUnledAt (list : ℕ) : Type 0 where
-    pub of : (h : Moves s rows count) (ws : List Name) → Reads (listOf maxList readName) s list ws → Noted owner o skip n (each (unledNote m (textAt s at) h) (placed 0 ws)) r o′
+    pub of : (h : Moves s rows prints count) (ws : List Name) → Reads (listOf maxList readName) s list ws → Noted owner o skip n (each (unledNote m (textAt s at) h) (placed 0 ws)) r o′
 
   pub record NotesUnledStates (found : Found) : Type 0 where
-    pub of : (h : Moves s rows count) (vs : List Name) → StatesAt s found vs → Noted owner o skip n (each (unledNote m (textAt s at) h) (placed 0 vs)) r o′
+    pub of : (h : Moves s rows prints count) (vs : List Name) → StatesAt s found vs → Noted owner o skip n (each (unledNote m (textAt s at) h) (placed 0 vs)) r o′

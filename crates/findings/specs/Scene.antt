@@ -7,6 +7,7 @@ use lib.ListN.{length, getD, getElem?}
 use lib.Seq.{sets}
 use Rattle.reading.specs.Read.{Read, Reader, ok, refused}
 use Rattle.reading.specs.Limits.{maxU32, maxU64, maxList}
+use Rattle.reading.specs.Items.{Items}
 use Rattle.reading.specs.Item.{readNumber, readCount}
 use Rattle.reading.specs.Text.{Name, readName, readVersion}
 use Rattle.reading.specs.Combine.{listOf, optional}
@@ -60,6 +61,10 @@ pub record RowsFilled (s : List ℕ) (at : ℕ) (table : List ℕ) (r : Listed) 
 -- each word is a byte
 abbrev pub Bytes : List ℕ → Type 0
 Bytes s = (i : ℕ) → getD s i 0 < 256
+
+-- the name and the absent variant of a pattern stand from a place to r, where r is not 0
+pub record PastBare (s : List ℕ) (name r : ℕ) : Type 0 where
+  pub of : 0 < r → Items s 2 name r × (r ≤ length s)
 
 -- the table of the list of records at a place, in a document, which is made of bytes
 pub record PairsFilled (s : List ℕ) (at : ℕ) (table : List ℕ) (r : ℕ) (table′ : List ℕ) : Type 0 where

@@ -1,6 +1,6 @@
 -- Which variants of a group of events patterns use, and what the search for them promises: for whatever reads there, its answer is
 -- the definition's.
-use Prim.Native.Nat.{ℕ, _+_, _*_, _≤_}
+use Prim.Native.Nat.{ℕ, _+_, _*_, _<_, _≤_}
 use mathlib.Core.Path.{_≡_}
 use mathlib.Core.List.{List, [], _∷_, _++_, map}
 use mathlib.Core.Bool.{Bool, true, false, cond, not, _&&_, _||_}
@@ -79,6 +79,11 @@ pub record AddsUse (s : List ℕ) (at : ℕ) (g : Name) (table : List ℕ) (u : 
 -- the print of the group's name in the pattern of transition i
 abbrev pub GroupPrint : List ℕ → List ℕ → ℕ → ℕ → Type 0
 GroupPrint s rows i r = r ≡ print 0 (textAt s (afterHead s (field rows i 2)))
+
+-- from one place on and before another none has the mark
+pub record NextMarked (marks : List ℕ) (mark from r : ℕ) : Type 0 where
+  pub low : from ≤ r
+  pub passed : (j : ℕ) → from ≤ j → j < r → getD marks j 0 ≡ mark → ⊥
 
 pub record UsesOf (s rows : List ℕ) (count : ℕ) (g : Name) (table : List ℕ) (u : Uses) : Type 0 where
   pub names : (ts : List Transition) → Rows s rows ts → count ≡ length ts → NamesAt s table (u .named) (namedBy g ts)

@@ -1,4 +1,5 @@
 // State variants that no chain of transitions leads to: site 21.
+use crate::prints::print_bytes;
 use crate::rows::field;
 use crate::sheet::emit_if;
 use crate::touch::is_free;
@@ -9,46 +10,55 @@ use reading::text_at;
 use typing::Found;
 use typing::after;
 use typing::null_at;
-use typing::same;
 use typing::same_name;
 ghost use Prim.Native.Nat.{_+_, _<_, _≤_, _^_};
 ghost use lib.ListN.{length};
 ghost use Rattle.findings.specs.WarningPromises.{NotesUnreachable};
 ghost use Rattle.findings.specs.Reaching.{IsHit, IsLed, NotesUnled, NotesUnledAt, NotesUnledStates};
 
-// Whether transition i is taken and leads to the name.
-pub(crate) fn is_hit<'a>(
+// Whether transition i is taken and leads to the name at key, which has the print.
+fn is_hit<'a>(
     doc: &'a [u8],
     rows: &'a [usize],
+    prints: &'a [u32],
     marks: &'a [u8],
-    name: &'a [u8],
+    key: usize,
+    print: u32,
     i: u8,
 ) -> bool
-    ensures { λ r. ⌜ IsHit (now (doc .entry)) (now (rows .entry)) (now (marks .entry)) (now (name .entry)) i r ⌝ }
+    requires { ⌜ 768 ≤ length (now prints) ⌝ }
+    ensures { λ r. ⌜ IsHit (now (doc .entry)) (now (rows .entry)) (now (prints .entry)) (now (marks .entry)) key print i r ⌝ }
 {
+    let at = 3 * (i as usize) + 1;
+    if prints[at] != print {
+        return false;
+    }
     if is_free(marks, i) {
         return false;
     }
-    same(text_at(doc, field(rows, i, 4)), name)
+    same_name(doc, field(rows, i, 4), key)
 }
 
 // Whether the name at key is the first, which stands at a place, or what is taken leads to it.
 pub(crate) fn is_led<'a>(
     doc: &'a [u8],
     rows: &'a [usize],
+    prints: &'a [u32],
     marks: &'a [u8],
     count: u8,
     at: usize,
     key: usize,
 ) -> bool
-    ensures { λ r. ⌜ IsLed (now (doc .entry)) (now (rows .entry)) (now (marks .entry)) count at key r ⌝ }
+    requires { ⌜ 768 ≤ length (now prints) ⌝ }
+    ensures { λ r. ⌜ IsLed (now (doc .entry)) (now (rows .entry)) (now (prints .entry)) (now (marks .entry)) count at key r ⌝ }
 {
     if same_name(doc, at, key) {
         return true;
     }
+    let print = print_bytes(text_at(doc, key), 0);
     let mut i: u8 = 0;
     while i < count {
-        if is_hit(doc, rows, marks, text_at(doc, key), i) {
+        if is_hit(doc, rows, prints, marks, key, print, i) {
             return true;
         }
         i += 1;
@@ -60,6 +70,7 @@ pub(crate) fn is_led<'a>(
 pub(crate) fn note_unled<'a>(
     doc: &'a [u8],
     rows: &'a [usize],
+    prints: &'a [u32],
     marks: &'a [u8],
     count: u8,
     at: usize,
@@ -70,11 +81,12 @@ pub(crate) fn note_unled<'a>(
     n: usize,
     owner: u32,
 ) -> usize
+    requires { ⌜ 768 ≤ length (now prints) ⌝ }
     requires { ⌜ n < 2 ^ 40 ⌝ }
-    ensures { λ r. ⌜ NotesUnled (now (doc .entry)) owner (now (out .entry)) skip n r (now (out .exit)) (now (rows .entry)) count (now (marks .entry)) at key j ⌝ }
+    ensures { λ r. ⌜ NotesUnled (now (doc .entry)) owner (now (out .entry)) skip n r (now (out .exit)) (now (rows .entry)) (now (prints .entry)) count (now (marks .entry)) at key j ⌝ }
     ensures { λ r. ⌜ r ≤ n + 1 ⌝ }
 {
-    let led = is_led(doc, rows, marks, count, at, key);
+    let led = is_led(doc, rows, prints, marks, count, at, key);
     emit_if(!led, out, skip, n, owner, 21, j, 0)
 }
 
@@ -82,6 +94,7 @@ pub(crate) fn note_unled<'a>(
 pub(crate) fn note_unled_at<'a>(
     doc: &'a [u8],
     rows: &'a [usize],
+    prints: &'a [u32],
     marks: &'a [u8],
     count: u8,
     at: usize,
@@ -91,8 +104,9 @@ pub(crate) fn note_unled_at<'a>(
     n: usize,
     owner: u32,
 ) -> usize
+    requires { ⌜ 768 ≤ length (now prints) ⌝ }
     requires { ⌜ n + 255 ≤ 2 ^ 40 ⌝ }
-    ensures { λ r. ⌜ NotesUnledAt (now (doc .entry)) owner (now (out .entry)) skip n r (now (out .exit)) (now (rows .entry)) count (now (marks .entry)) at list ⌝ }
+    ensures { λ r. ⌜ NotesUnledAt (now (doc .entry)) owner (now (out .entry)) skip n r (now (out .exit)) (now (rows .entry)) (now (prints .entry)) count (now (marks .entry)) at list ⌝ }
     ensures { λ r. ⌜ r ≤ n + 255 ⌝ }
 {
     let c = Cursor { at: list };
@@ -107,6 +121,7 @@ pub(crate) fn note_unled_at<'a>(
         m = note_unled(
             doc,
             rows,
+            prints,
             marks,
             count,
             at,
@@ -127,6 +142,7 @@ pub(crate) fn note_unled_at<'a>(
 pub(crate) fn note_unled_states<'a>(
     doc: &'a [u8],
     rows: &'a [usize],
+    prints: &'a [u32],
     marks: &'a [u8],
     count: u8,
     at: usize,
@@ -136,14 +152,27 @@ pub(crate) fn note_unled_states<'a>(
     n: usize,
     owner: u32,
 ) -> usize
+    requires { ⌜ 768 ≤ length (now prints) ⌝ }
     requires { ⌜ n + 255 ≤ 2 ^ 40 ⌝ }
-    ensures { λ r. ⌜ NotesUnledStates (now (doc .entry)) owner (now (out .entry)) skip n r (now (out .exit)) (now (rows .entry)) count (now (marks .entry)) at found ⌝ }
+    ensures { λ r. ⌜ NotesUnledStates (now (doc .entry)) owner (now (out .entry)) skip n r (now (out .exit)) (now (rows .entry)) (now (prints .entry)) count (now (marks .entry)) at found ⌝ }
     ensures { λ r. ⌜ r ≤ n + 255 ⌝ }
 {
     let Found::At(list) = found else {
         return n;
     };
-    note_unled_at(doc, rows, marks, count, at, list, out, skip, n, owner)
+    note_unled_at(
+        doc,
+        rows,
+        prints,
+        marks,
+        count,
+        at,
+        list,
+        out,
+        skip,
+        n,
+        owner,
+    )
 }
 
 // Site 21 of a module: at is the place of the initial state, and found that of the State variants.
@@ -178,5 +207,17 @@ pub(crate) fn note_unreachable<'a>(
         &mut marks,
         &mut queue,
     );
-    note_unled_states(doc, rows, &marks, count, at, found, out, skip, n, owner)
+    note_unled_states(
+        doc,
+        rows,
+        prints,
+        &marks,
+        count,
+        at,
+        found,
+        out,
+        skip,
+        n,
+        owner,
+    )
 }

@@ -12,12 +12,10 @@ use typing::null_at;
 use typing::same;
 use typing::store;
 ghost use mathlib.Core.Path.{_≡_};
-ghost use Prim.Native.Nat.{_<_};
-ghost use lib.ListN.{length, getD};
-ghost use Rattle.findings.specs.Scene.{field};
-ghost use Rattle.findings.specs.Prints.{print};
+ghost use Prim.Native.Nat.{_<_, _≤_};
+ghost use lib.ListN.{length};
 ghost use Rattle.findings.specs.Classes.{Tabled};
-ghost use Rattle.findings.specs.Uses.{AddsVariant, AddsUse, GroupPrint, UsesOf, IsNamed, HasVariant, IsUsed};
+ghost use Rattle.findings.specs.Uses.{AddsVariant, AddsUse, GroupPrint, NextMarked, UsesOf, IsNamed, HasVariant, IsUsed};
 
 // How many variants the patterns of a group name, and whether one of them names none.
 pub struct Uses {
@@ -84,30 +82,23 @@ pub(crate) fn print_groups(doc: &[u8], rows: &[usize], count: u8) -> [u32; 256]
     marks
 }
 
-// The same of the pattern of transition i: it is of another group where the prints of their names differ.
-fn add_marked<'a>(
-    doc: &'a [u8],
-    rows: &'a [usize],
-    marks: &'a [u32; 256],
-    i: u8,
-    mark: u32,
-    group: &'a [u8],
-    table: &mut [usize],
-    u: Uses,
-) -> Uses
-    requires { ⌜ GroupPrint (now doc) (now rows) i (getD (now marks) i 0) ⌝ }
-    requires { ⌜ mark ≡ print 0 (now group) ⌝ }
-    requires { ⌜ u .named < 255 ⌝ }
-    requires { ⌜ length (now table) ≡ 256 ⌝ }
-    ensures { λ r. ⌜ AddsUse (now (doc .entry)) (field (now (rows .entry)) i 2) (now (group .entry)) (now (table .entry)) u (now (table .exit)) r ⌝ }
+// The first place from one on where the mark stands; the count where there is none.
+fn next_marked(marks: &[u32; 256], mark: u32, from: u8, count: u8) -> u8
+    requires { ⌜ from ≤ count ⌝ }
+    ensures { λ r. ⌜ NextMarked (now (marks .entry)) mark from r ⌝ }
+    ensures { λ r. ⌜ r ≤ count ⌝ }
 {
-    if marks[i as usize] != mark {
-        return u;
+    let mut i = from;
+    while i < count {
+        if marks[i as usize] == mark {
+            return i;
+        }
+        i += 1;
     }
-    add_use(doc, field(rows, i, 2), group, table, u)
+    i
 }
 
-// The same of all transitions, by the prints of their groups' names.
+// The same of all transitions: a pattern is of another group where the prints of their names differ.
 pub(crate) fn fill_uses<'a>(
     doc: &'a [u8],
     rows: &'a [usize],
@@ -125,10 +116,10 @@ pub(crate) fn fill_uses<'a>(
         named: 0,
         bare: false,
     };
-    let mut i: u8 = 0;
+    let mut i = next_marked(marks, mark, 0, count);
     while i < count {
-        u = add_marked(doc, rows, marks, i, mark, group, table, u);
-        i += 1;
+        u = add_use(doc, field(rows, i, 2), group, table, u);
+        i = next_marked(marks, mark, i + 1, count);
     }
     u
 }

@@ -2,6 +2,7 @@
 use crate::links::link_all;
 use crate::links::next_free;
 use crate::pairs::leads_to;
+use crate::prints::print_bytes;
 use crate::prints::print_word;
 use crate::rows::field;
 use reading::text_at;
@@ -9,6 +10,7 @@ use typing::same;
 ghost use mathlib.Core.Path.{_≡_};
 ghost use Prim.Native.Nat.{_+_, _<_, _≤_};
 ghost use lib.ListN.{length, set};
+ghost use Rattle.findings.specs.Prints.{print};
 ghost use Rattle.findings.specs.PairPromises.{LeadsOn};
 ghost use Rattle.findings.specs.Reaching.{Queued, Stepped, Swept, Walked, BeginsAt};
 ghost use Rattle.findings.specs.Links.{leadOf, Links, Ahead, Heads};
@@ -27,12 +29,14 @@ fn take(i: u8, marks: &mut [u8], queue: &mut [u8], tail: usize) -> usize
     tail + 1
 }
 
-// Takes transition i where it starts at the name.
+// Takes transition i where it starts at the name, whose print is the code.
 fn start_one<'a>(
     doc: &'a [u8],
     rows: &'a [usize],
+    prints: &'a [u32],
     count: u8,
     name: &'a [u8],
+    code: u32,
     i: u8,
     marks: &mut [u8],
     queue: &mut [u8],
@@ -40,8 +44,14 @@ fn start_one<'a>(
 ) -> usize
     requires { ⌜ Queued count (now marks) (now queue) tail ⌝ }
     requires { ⌜ i < count ⌝ }
-    ensures { λ r. ⌜ Stepped (BeginsAt (now (doc .entry)) (now (rows .entry)) (now (name .entry))) i (now (marks .entry)) (now (queue .entry)) tail (now (marks .exit)) (now (queue .exit)) r ⌝ }
+    requires { ⌜ 768 ≤ length (now prints) ⌝ }
+    requires { ⌜ code ≡ print 0 (now name) ⌝ }
+    ensures { λ r. ⌜ Stepped (BeginsAt (now (doc .entry)) (now (rows .entry)) (now (prints .entry)) (now (name .entry))) i (now (marks .entry)) (now (queue .entry)) tail (now (marks .exit)) (now (queue .exit)) r ⌝ }
 {
+    let w = 3 * (i as usize);
+    if prints[w] != code {
+        return tail;
+    }
     let at = i as usize;
     if marks[at] != 0 {
         return tail;
@@ -56,18 +66,21 @@ fn start_one<'a>(
 pub(crate) fn start_all<'a>(
     doc: &'a [u8],
     rows: &'a [usize],
+    prints: &'a [u32],
     count: u8,
     name: &'a [u8],
     marks: &mut [u8],
     queue: &mut [u8],
 ) -> usize
+    requires { ⌜ 768 ≤ length (now prints) ⌝ }
     requires { ⌜ Queued count (now marks) (now queue) 0 ⌝ }
-    ensures { λ r. ⌜ Swept (BeginsAt (now (doc .entry)) (now (rows .entry)) (now (name .entry))) count (now (marks .entry)) (now (queue .entry)) 0 count (now (marks .exit)) (now (queue .exit)) r ⌝ }
+    ensures { λ r. ⌜ Swept (BeginsAt (now (doc .entry)) (now (rows .entry)) (now (prints .entry)) (now (name .entry))) count (now (marks .entry)) (now (queue .entry)) 0 count (now (marks .exit)) (now (queue .exit)) r ⌝ }
 {
+    let code = print_bytes(name, 0);
     let mut tail: usize = 0;
     let mut i: u8 = 0;
     while i < count {
-        tail = start_one(doc, rows, count, name, i, marks, queue, tail);
+        tail = start_one(doc, rows, prints, count, name, code, i, marks, queue, tail);
         i += 1;
     }
     tail
@@ -168,12 +181,12 @@ pub(crate) fn walk<'a>(
 )
     requires { ⌜ 768 ≤ length (now prints) ⌝ }
     requires { ⌜ Queued count (now marks) (now queue) 0 ⌝ }
-    ensures { λ _. ⌜ Walked (BeginsAt (now (doc .entry)) (now (rows .entry)) (now (name .entry))) (LeadsOn (now (doc .entry)) (now (rows .entry)) (now (prints .entry)) count) count (now (marks .exit)) ⌝ }
+    ensures { λ _. ⌜ Walked (BeginsAt (now (doc .entry)) (now (rows .entry)) (now (prints .entry)) (now (name .entry))) (LeadsOn (now (doc .entry)) (now (rows .entry)) (now (prints .entry)) count) count (now (marks .exit)) ⌝ }
 {
     let mut heads: [u8; 256] = [255; 256];
     let mut links: [u8; 256] = [0; 256];
     link_all(prints, count, &mut heads, &mut links);
-    let mut tail = start_all(doc, rows, count, name, marks, queue);
+    let mut tail = start_all(doc, rows, prints, count, name, marks, queue);
     let mut head: usize = 0;
     while head < tail {
         let p = queue[head];

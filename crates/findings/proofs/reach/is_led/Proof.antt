@@ -7,10 +7,10 @@ use Rattle.findings.proofs.reach.is_led.Statement.{statement}
 use Rattle.findings.proofs.reach.is_led.Tie as tie
 
 abbrev Inv-loop : tie.InvT-loop
-Inv-loop doc rows marks count at key i₀ i = (i ≤ count) × HitsLeft doc rows marks count at key i
+Inv-loop doc rows prints marks count at key print i₀ i = (i ≤ count) × HitsLeft doc rows prints marks count at key i
 
 abbrev μ-loop : tie.MeasureT-loop
-μ-loop doc rows marks count at key i₀ i = count - i
+μ-loop doc rows prints marks count at key print i₀ i = count - i
 
 pub is-led-spec : {M : Type 1} → statement M
 is-led-spec =
@@ -20,8 +20,9 @@ is-led-spec =
     μ-loop
     (λ c κs. search needs)
     (λ c. search led-first)
-    (λ c. (omega arith, search hits-start))
     (λ c κs. search needs)
+    (λ c κs. search needs)
+    (λ c. (omega arith, search hits-start))
     (λ c κs. search needs)
     (λ c. search hits-hit)
     (λ c. omega arith)

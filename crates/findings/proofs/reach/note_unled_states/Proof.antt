@@ -12,6 +12,6 @@ note-unled-states-spec =
     (λ c. search needs)
     (λ c. search needs)
     (λ c. (search states-missing, omega arith))
-    (λ c κs. omega arith)
+    (λ c κs. (search needs, omega arith))
     (λ c. search needs)
     (λ c. (search states-found, omega arith)))

@@ -18,6 +18,6 @@ note-unreachable-spec =
     (λ c. search needs)
     (λ c κs. (search needs, queued-none _ _ _ refl refl (omega arith)))
     (λ c. search needs)
-    (λ c κs. omega arith)
+    (λ c κs. (search needs, omega arith))
     (λ c. search needs)
     (λ c. (search unreachable-noted, omega arith)))

@@ -4,7 +4,7 @@ use Prim.Native.Nat.{_-_, _≤_}
 use lib.ListN.{length}
 use native.Mathlib.Omega.{arith}
 use borrow.Author.Needs.{needs}
-use Rattle.findings.proofs.UseLaws.{UsesLeft, uses-start, print-of, uses-more, uses-done}
+use Rattle.findings.proofs.UseLaws.{UsesLeft, uses-first, uses-turn, uses-done}
 use Rattle.findings.proofs.uses.fill_uses.Statement.{statement}
 use Rattle.findings.proofs.uses.fill_uses.Tie as tie
 
@@ -21,10 +21,13 @@ fill-uses-spec =
     Inv-loop
     μ-loop
     (λ c κs. search needs)
-    (λ c. (omega arith, omega arith, search uses-start))
-    (λ c κs. (search print-of, (search needs, (omega arith, omega arith))))
+    (λ c κs. omega arith)
+    (λ c. (omega arith, omega arith, search uses-first))
+    (λ c κs. search needs)
+    (λ c κs. (omega arith, omega arith))
     (λ c. omega arith)
+    (λ c κs. omega arith)
     (λ c. omega arith)
-    (λ c. (omega arith, omega arith, search uses-more))
+    (λ c. (omega arith, omega arith, search uses-turn))
     (λ c. omega arith)
     (λ c. search uses-done))

@@ -1,7 +1,7 @@
--- By its mark, and by its state.
+-- By the prints, by its mark, and by its state.
 use borrow.Author.Needs.{needs}
 use native.Mathlib.Omega.{arith}
-use Rattle.findings.proofs.ReachLaws.{queue-room, step-was, step-no, step-yes, starts-at}
+use Rattle.findings.proofs.ReachLaws.{queue-room, step-was, step-no, step-yes, starts-at, starts-apart}
 use Rattle.findings.proofs.walk.start_one.Statement.{statement}
 use Rattle.findings.proofs.walk.start_one.Tie as tie
 
@@ -9,6 +9,10 @@ pub start-one-spec : {M : Type 1} → statement M
 start-one-spec =
     tie.close
     (tie.spec
+    (λ c. omega arith)
+    (λ c. omega arith)
+    (λ c. omega arith)
+    (λ c. search starts-apart)
     (λ c. omega arith)
     (λ c. search step-was)
     (λ c κs. search needs)

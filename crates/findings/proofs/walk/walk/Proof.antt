@@ -14,7 +14,7 @@ use Rattle.findings.proofs.walk.walk.Tie as tie
 
 abbrev Inv-loop : tie.InvT-loop
 Inv-loop doc rows prints count name marks₀ queue₀ heads₀ links tail₀ head₀ marks queue heads tail head =
-    (tail ≤ 255) × (length heads ≡ 256) × Following (BeginsAt doc rows name) (LeadsOn doc rows prints count) count marks queue tail head × Links prints count links × Heads prints count heads marks
+    (tail ≤ 255) × (length heads ≡ 256) × Following (BeginsAt doc rows prints name) (LeadsOn doc rows prints count) count marks queue tail head × Links prints count links × Heads prints count heads marks
 
 abbrev μ-loop : tie.MeasureT-loop
 μ-loop doc rows prints count name marks₀ queue₀ heads₀ links tail₀ head₀ marks queue heads tail head = 256 - head
