@@ -3,6 +3,7 @@ pub mod FitLaws
 pub mod VersionLaws
 pub mod NameLaws
 pub mod RuleLaws
+pub mod QuickLaws
 pub mod ShortLaws
 pub mod TableLaws
 pub mod PathLaws

@@ -116,25 +116,28 @@ module _ (s : List ℕ) (at next : ℕ) where
       typed-beyond h k = typed-as _ _ (type-beyond s at e q h k)
 
 -- a path of one name
-module _ (s names enums : List ℕ) (at next : ℕ) {x : Bool} (e : x ≡ eqName (textAt s at) stateWord) where
+module _ (s names enums : List ℕ) (at next : ℕ) {x : Bool} {n : Name} (e : x ≡ eqName n stateWord) (t : n ≡ textAt s at) where
   abbrev Named : Typed → Type 0
   Named r = typedOf s r ≡ outcome next (resolveName (envAt s names enums) (textAt s at))
 
+  state-word : eqName (textAt s at) stateWord ≡ x
+  state-word = rw (sym t) (sym e)
+
   pub name-state : x ≡ true → Named (Is ty.State next)
   unfolding resolveName pick typedOf outcome tyOf
-  name-state q = rw (sym e ∙ q)
+  name-state q = rw (state-word ∙ q)
 
-  module _ (q : x ≡ false) {f : Found} {n : Name} (g : f ≡ found (findIn s n names)) (t : n ≡ textAt s at) where
+  module _ (q : x ≡ false) {f : Found} (g : f ≡ found (findIn s n names)) where
     search-is : f ≡ found (findIn s (textAt s at) names)
     search-is = rw t at g
 
     pub name-found : {under : ℕ} (r : Typed) → f ≡ At under → typedOf s r ≡ good (exprTypeAt s under) next → Named r
     unfolding resolveName pick outcome envAt typeFound firstOf orState
-    name-found r h k = rw (sym e ∙ q, found-at _ search-is h) k
+    name-found r h k = rw (state-word ∙ q, found-at _ search-is h) k
 
     pub name-other : (r : Typed) → f ≡ Nothing → typedOf s r ≡ outcome next (resolveState (envAt s [] enums) (textAt s at)) → Named r
     unfolding resolveName pick envAt typeFound firstOf orState resolveState
-    name-other r h k = rw (sym e ∙ q, found-none _ search-is h) k
+    name-other r h k = rw (state-word ∙ q, found-none _ search-is h) k
 
 -- a longer path
 module _ (s enums : List ℕ) (at m next : ℕ) {f : Found} {n : Name} (g : f ≡ found (findIn s n enums)) (t : n ≡ textAt s at) where

@@ -1,6 +1,7 @@
 -- What each step of an expression's typing gives, for whatever reads there.
 use Prim.Native.Nat.{ℕ, suc, _-_}
 use mathlib.Core.Path.{_≡_, refl, sym, ap, subst, _∙_}
+use mathlib.Core.Bool.{Bool, true}
 use mathlib.Core.List.{List}
 use native.Mathlib.Omega.{arith}
 use Rattle.reading.specs.Read.{ok}
@@ -25,7 +26,7 @@ use Rattle.reading.proofs.Walks.{passed}
 use Rattle.typing.specs.Types.{ExprType, bool, intLit}
 use Rattle.typing.specs.Causes as causes
 use Rattle.typing.specs.Causes.{Answer as TypeAnswer, is, fails, andThen}
-use Rattle.typing.specs.Rules.{unaryType, binOp, binaryType}
+use Rattle.typing.specs.Rules.{isBool, unaryType, binOp, binaryType}
 use Rattle.typing.specs.Env.{Env, Agree}
 use Rattle.typing.specs.Typing.{typeExpr}
 use Rattle.typing.specs.Means.{tyOf, causeOf, good, bad, typedOf, outcome}
@@ -37,6 +38,7 @@ use Rattle.typing.specs.declared.ty.Ty.the-variants as ty
 use Rattle.typing.specs.declared.cause.Cause.{Cause}
 use Rattle.typing.specs.declared.cause.Typed.{Typed}
 use Rattle.typing.specs.declared.cause.Typed.the-variants.{Is, Fails}
+use Rattle.typing.proofs.RuleLaws.{not-bool}
 use Rattle.typing.proofs.TableLaws.{tag-was, tag-out}
 use Rattle.typing.proofs.EnvLaws.{after-is}
 use Rattle.typing.proofs.Depends.{type-agree}
@@ -184,6 +186,9 @@ module _ (env : Env) (d : ℕ) (s : List ℕ) (at : ℕ) {a : Answer} (e : a ≡
           let j = is-typed env d s (c .at) h x n (ap (readExpr d s) y ∙ v) z in
           rw (j .0) (rw (i, j .1) at g);
     }
+
+    pub unary-not : {τ : Ty} {next : ℕ} {x : Bool} → t ≡ Is τ next → op ≡ 0 → x ≡ isBool (tyOf s τ) → x ≡ true → TypesUnary env d s at (Is ty.Bool next)
+    unary-not {τ} {next} z k p g = unary-goes (Is ty.Bool next) z (not-bool s op τ next p k g)
 
 -- a binary expression
 module _ (env : Env) (d : ℕ) (s : List ℕ) (at : ℕ) {a : Answer} (e : a ≡ answer (readCase binOps s at)) where

@@ -15,6 +15,7 @@ pub mod Means
 pub mod Tells
 pub mod Table
 pub mod Typed
+pub mod Quick
 pub mod Shape
 pub mod Entries
 pub mod Judges

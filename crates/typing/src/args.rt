@@ -4,8 +4,8 @@ use crate::cause::Typed;
 use crate::cause::Within;
 use crate::expr::type_expr;
 use crate::fill::after_head;
+use crate::quick::quickly_compatible;
 use crate::rules::Fit;
-use crate::rules::compatible_with;
 use crate::table::after;
 use crate::table::after_case;
 use crate::table::ty_at;
@@ -18,7 +18,7 @@ pub(crate) fn typed_compatible(doc: &[u8], t: Typed, ty: usize) -> Fit
     ensures { λ r. ⌜ AcceptsTyped (now (doc .entry)) t ty r ⌝ }
 {
     match t {
-        Typed::Is(given, _) => compatible_with(doc, given, ty_at(doc, ty)),
+        Typed::Is(given, _) => quickly_compatible(doc, given, ty_at(doc, ty)),
         Typed::Fails(cause) => Fit::Unfit(cause),
     }
 }

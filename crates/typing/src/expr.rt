@@ -3,11 +3,14 @@ use crate::cause::Cause;
 use crate::cause::Typed;
 use crate::path::after_path;
 use crate::path::resolve_path;
+use crate::quick::code_of;
+use crate::quick::quick_type;
 use crate::rules::binary_type;
 use crate::rules::unary_type;
 use crate::table::after;
 use crate::table::after_any;
 use crate::ty::Ty;
+use crate::ty::is_bool;
 use reading::Answer;
 use reading::Cursor;
 use reading::Tagged;
@@ -72,6 +75,11 @@ pub(crate) fn type_unary<'a>(
     let Typed::Is(ty, next) = t else {
         return t;
     };
+    if op == 0 {
+        if is_bool(doc, ty) {
+            return Typed::Is(Ty::Bool, next);
+        }
+    }
     unary_type(doc, op, ty, next)
 }
 
@@ -94,9 +102,18 @@ pub(crate) fn type_binary<'a>(
     let Typed::Is(lt, right) = l else {
         return l;
     };
+    let a = code_of(doc, lt);
     let r = type_expr(doc, right, depth, names, enums);
     let Typed::Is(rt, next) = r else {
         return r;
     };
+    let b = code_of(doc, rt);
+    let q = quick_type(op, a, b);
+    if q == 0 {
+        return Typed::Is(Ty::Bool, next);
+    }
+    if 2 < q {
+        return Typed::Is(Ty::Bit((q - 3) as u32), next);
+    }
     binary_type(doc, op, lt, rt, next)
 }

@@ -19,6 +19,7 @@ mod number;
 mod output;
 mod path;
 mod pattern;
+mod quick;
 mod rules;
 mod side;
 mod table;

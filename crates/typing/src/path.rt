@@ -1,7 +1,7 @@
 // What a path means: its type, or the cause.
 use crate::cause::Cause;
 use crate::cause::Typed;
-use crate::names::is_word;
+use crate::names::same;
 use crate::table::Found;
 use crate::table::after;
 use crate::table::after_any;
@@ -86,10 +86,11 @@ pub(crate) fn resolve_name<'a>(
 ) -> Typed
     ensures { λ r. ⌜ typedOf (now (doc .entry)) r ≡ outcome next (resolveName (envAt (now (doc .entry)) (now (names .entry)) (now (enums .entry))) (textAt (now (doc .entry)) at)) ⌝ }
 {
-    if is_word(doc, at, b"state") {
+    let name = text_at(doc, at);
+    if same(name, b"state") {
         return Typed::Is(Ty::State, next);
     }
-    let f = find(doc, names, text_at(doc, at));
+    let f = find(doc, names, name);
     match f {
         Found::At(under) => typed_at(doc, under, next),
         Found::Nothing => resolve_state(doc, at, next, enums),

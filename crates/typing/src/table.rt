@@ -31,12 +31,20 @@ pub(crate) fn after_any(doc: &[u8], at: usize) -> usize
     }
 }
 
-// Where a short item ends, by its first byte: a number, an empty list, a simple value or a name.
+// Where a short item ends, by its first byte: a name, a number, an empty list or a simple value.
 fn short_end(doc: &[u8], at: usize) -> Found
     ensures { λ r. ⌜ Stops (now (doc .entry)) at r ⌝ }
 {
     if at < doc.len() {
         let b = doc[at];
+        if 96 < b {
+            if b < 120 {
+                let n = (b - 96) as usize;
+                if n < doc.len() - at {
+                    return Found::At(at + 1 + n);
+                }
+            }
+        }
         if b < 24 {
             return Found::At(at + 1);
         }
@@ -46,14 +54,6 @@ fn short_end(doc: &[u8], at: usize) -> Found
         if 243 < b {
             if b < 247 {
                 return Found::At(at + 1);
-            }
-        }
-        if 96 < b {
-            if b < 120 {
-                let n = (b - 96) as usize;
-                if n < doc.len() - at {
-                    return Found::At(at + 1 + n);
-                }
             }
         }
     }
