@@ -5,8 +5,30 @@ mod output;
 
 use libc::STDIN_FILENO;
 use lines::print_findings;
-use output::print;
-use output::print_number;
+use output::print_numbers;
+use text::put_bytes;
+ghost use Prim.Native.Nat.{_≤_};
+ghost use lib.ListN.{length};
+
+// Whether there are findings.
+fn any_found(number: u32, first: u64, second: u64) -> bool {
+    if number == 0 {
+        if 0 < first {
+            return true;
+        }
+        return 0 < second;
+    }
+    false
+}
+
+// The last line: both counts, or the refusal's number and place.
+fn print_last(number: u32, first: u64, second: u64) {
+    if number == 0 {
+        print_numbers(b"", first, b" errors, ", second, b" warnings\n");
+        return;
+    }
+    print_numbers(b"refused ", number as u64, b" at ", first, b"\n");
+}
 
 // What is found in a document.
 fn check(doc: &[u8]) {
@@ -15,19 +37,17 @@ fn check(doc: &[u8]) {
     let number = offer::offer_findings(doc, &mut words, &mut answer);
     let first = answer[0];
     let second = answer[1];
-    if number == 0 {
+    if any_found(number, first, second) {
         print_findings(doc, &words, first, second);
-        print_number(first);
-        print(b" errors, ");
-        print_number(second);
-        print(b" warnings\n");
-        return;
     }
-    print(b"refused ");
-    print_number(number as u64);
-    print(b" at ");
-    print_number(first);
-    print(b"\n");
+    print_last(number, first, second);
+}
+
+// What is found in the document that the first bytes of a space are.
+fn check_first(space: &[u8], end: usize) {
+    if end <= space.len() {
+        check(&space[0..end]);
+    }
 }
 
 // Reads what is left of standard input.
@@ -43,11 +63,53 @@ fn drain() {
     }
 }
 
-fn main() {
-    let mut space = [0u8; 65536];
-    let n = io::read_full(STDIN_FILENO, &mut space);
-    if n == 65536 {
+// Puts the start of a document into a space, and behind it what standard input has; the end of the document there.
+fn read_on(space: &mut [u8], start: &[u8]) -> usize
+    requires { ⌜ (4096 ≤ length (now space)) × (length (now start) ≤ 4096) ⌝ }
+{
+    let k = put_bytes(space, 0, start);
+    let n = io::read_full(STDIN_FILENO, &mut space[k..]);
+    if k + n == 65536 {
         drain();
     }
-    check(&space[0..n]);
+    k + n
+}
+
+// What is found in a document that starts so, and goes on in standard input.
+fn check_from(start: &[u8])
+    requires { ⌜ length (now start) ≤ 4096 ⌝ }
+{
+    let mut space = [0u8; 65536];
+    let end = read_on(&mut space, start);
+    check_first(&space, end);
+}
+
+// What is found in a whole document; where it is much, with more words.
+fn check_short(doc: &[u8])
+    requires { ⌜ length (now doc) ≤ 4096 ⌝ }
+{
+    let mut words = [0u32; 1020];
+    let mut answer = [0u64; 2];
+    let number = offer::offer_findings(doc, &mut words, &mut answer);
+    if number == 10 {
+        check_from(doc);
+        return;
+    }
+    let first = answer[0];
+    let second = answer[1];
+    if any_found(number, first, second) {
+        print_findings(doc, &words, first, second);
+    }
+    print_last(number, first, second);
+}
+
+// A short document needs little memory.
+fn main() {
+    let mut space = [0u8; 4096];
+    let n = io::read_full(STDIN_FILENO, &mut space);
+    if n < 4096 {
+        check_short(&space[0..n]);
+        return;
+    }
+    check_from(&space);
 }
