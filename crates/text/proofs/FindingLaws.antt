@@ -8,7 +8,7 @@ use lib.Seq.{length-sets}
 use Rattle.findings.specs.declared.whole.Ready.{Ready}
 use Rattle.reading.specs.Module.{Module}
 use Rattle.text.specs.Put.{Put}
-use Rattle.text.specs.Message.{Saying, saying, sayingText, pairSaid}
+use Rattle.text.specs.Message.{Saying, saying, sayingText, pairSaid, prioritySaid}
 use Rattle.text.specs.Said.{sayingOf}
 use Rattle.text.specs.Says.{WithRows, Named, Says, PutsSaid, PutsFinding}
 use Rattle.text.specs.declared.said.Said.{Said}
@@ -39,6 +39,11 @@ module _ (s places rows : List ℕ) (count : ℕ) (known : Ready) (table enums p
   pub finding-24 : site ≡ 24 → PutsFinding Known site i j o at r o′
   unfolding saying
   finding-24 e = finding-two λ m. rw e
+
+pub finding-14 : (s places rows : List ℕ) (count : ℕ) (known : Ready) (table enums properties : List ℕ) (site i j : ℕ) {o : List ℕ} {at r : ℕ} {o′ : List ℕ} → PutsSaid (Says (WithRows s places rows count) s (prioritySaid i j)) s 14 o at r o′ → site ≡ 14 → PutsFinding (Named s places rows count known table enums properties) site i j o at r o′
+unfolding saying
+finding-14 s places rows count known table enums properties site i j p e = rw e (
+    finding-put (Named s places rows count known table enums properties) s 14 i j (record { of = λ m h. p .says .of m (h .scene, (h .rows-are, h .count-is)) }) (p .put))
 
 pub said-length : {S : Said → Type 0} {s : List ℕ} {site : ℕ} {o : List ℕ} {at r : ℕ} {o′ : List ℕ} → PutsSaid S s site o at r o′ → length o′ ≡ length o
 said-length p = put-length (p .put)

@@ -8,6 +8,10 @@ use Rattle.text.specs.Form.{text}
 unfoldable pub inState : Name → Name → List ℕ
 inState n t = text "module '" ++ n ++ text "' state '" ++ t
 
+-- and which priority they have
+unfoldable pub inPriority : Name → Name → List ℕ → List ℕ
+inPriority n t k = inState n t ++ text "': duplicate priority " ++ k
+
 -- the ids of both
 unfoldable pub bothIds : List ℕ → List ℕ → List ℕ
 bothIds i j = i ++ text " and #" ++ j

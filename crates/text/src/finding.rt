@@ -1,5 +1,6 @@
 // The message of a finding into lent bytes, by the tables of its module.
 use crate::pieces::put_pair_at;
+use crate::pieces::put_priority_at;
 use crate::site::put_said;
 use crate::words::say_named;
 use findings::Ready;
@@ -35,6 +36,9 @@ pub fn put_finding<'a>(
     ensures { λ _. ⌜ length (now (out .exit)) ≡ length (now (out .entry)) ⌝ }
     ensures { λ r. ⌜ r ≤ at + 0x7b_0000 ⌝ }
 {
+    if site == 14 {
+        return put_priority_at(doc, places, rows, count, i, j, out, at);
+    }
     if site == 15 {
         return put_pair_at(doc, places, rows, count, site, i, j, out, at);
     }

@@ -1,6 +1,6 @@
 -- What is said is what is put.
 use borrow.Author.Needs.{needs}
-use Rattle.text.proofs.FindingLaws.{finding-put, put-length, first-of-two, finding-15, finding-24, said-length}
+use Rattle.text.proofs.FindingLaws.{finding-put, put-length, first-of-two, finding-14, finding-15, finding-24, said-length}
 use Rattle.text.proofs.finding.put_finding.Statement.{statement}
 use Rattle.text.proofs.finding.put_finding.Tie as tie
 
@@ -8,6 +8,9 @@ pub put-finding-spec : {M : Type 1} → statement M
 put-finding-spec =
     tie.close
     (tie.spec
+    (λ c κs. search needs)
+    (λ c. search needs)
+    (λ c. (search finding-14, (search needs, (search needs, (search said-length, search needs)))))
     (λ c κs. (search needs, search first-of-two))
     (λ c. search needs)
     (λ c. (search finding-15, (search needs, (search needs, (search said-length, search needs)))))
