@@ -7,10 +7,10 @@ use crate::decode::{answer, decode};
 use crate::encode::encode;
 use crate::generate::build::ir;
 use crate::lang::ir::Ir;
-use crate::messages::{alike, output, run as run_program};
+use crate::messages::{alike, output, ranked, run as run_program};
 use crate::offer::{Finder, Reader, Teller};
 use crate::original::findings;
-use crate::samples::{every_pair, faulty, growing, samples, Sample};
+use crate::samples::{claims, equalities, every_pair, faulty, growing, samples, Sample};
 use std::cell::RefCell;
 use std::fs;
 use std::hint::black_box;
@@ -246,8 +246,8 @@ const PROGRAM_ROUNDS: usize = 101;
 
 /// Two programs on each document through pipes, in turn, from start to end, and
 /// one that does nothing: the smallest document, the samples, one with several
-/// errors in each transition, and one with nearly as many findings as the words
-/// hold.
+/// errors in each transition, two with nearly as many findings as the words
+/// hold, one with very many properties, and one whose guard is all equalities.
 pub fn programs(ours: &Path, rust: &Path, nothing: &Path) -> Result<(), String> {
     let sample = |name, ir: Ir| Sample {
         name,
@@ -257,10 +257,17 @@ pub fn programs(ours: &Path, rust: &Path, nothing: &Path) -> Result<(), String> 
     all.extend(samples());
     all.push(sample("faulty", faulty()));
     all.push(sample("found", alike(81)));
+    all.push(sample("ranked", ranked(81)));
+    all.push(sample("claims", claims()));
+    all.push(sample("equals", equalities()));
     for sample in all {
         let due = output(&sample.bytes);
         let mut times = [Vec::new(), Vec::new(), Vec::new()];
-        for _ in 0..PROGRAM_ROUNDS {
+        let rounds = match sample.name {
+            "equals" => PAIR_ROUNDS,
+            _ => PROGRAM_ROUNDS,
+        };
+        for _ in 0..rounds {
             for (path, times) in [ours, rust, nothing].into_iter().zip(&mut times) {
                 let start = Instant::now();
                 let given = run_program(path, &sample.bytes)?;

@@ -126,6 +126,15 @@ pub fn alike(transitions: usize) -> Ir {
     }])
 }
 
+/// The same with one priority for all.
+pub fn ranked(transitions: usize) -> Ir {
+    let mut ir = alike(transitions);
+    for transition in &mut ir.modules[0].transitions {
+        transition.priority = Some(1);
+    }
+    ir
+}
+
 #[derive(Default)]
 struct Kept {
     records: Vec<Record>,

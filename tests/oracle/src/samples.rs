@@ -82,6 +82,54 @@ pub fn faulty() -> Ir {
     }])
 }
 
+/// 12 modules of as many properties and assumptions as there may be, all of
+/// different names.
+pub fn claims() -> Ir {
+    let named = |k: usize| property(&format!("p{k:03}"), holds(boolean(true)));
+    let module = |k: usize| Module {
+        properties: (0..255).map(named).collect(),
+        assumptions: (255..510).map(named).collect(),
+        ..bare(&format!("M{k}"))
+    };
+    ir((0..12).map(module).collect())
+}
+
+/// One transition whose guard is 3,900 equalities of as many names: what costs
+/// the library most.
+pub fn equalities() -> Ir {
+    let equal = |k: u8| {
+        let name: String = [k / 16, k % 16]
+            .map(|d| char::from(b'a' + d))
+            .iter()
+            .collect();
+        move |j: u8| {
+            let name = format!("{name}{}", char::from(b'a' + j));
+            binary(BinOp::Eq, path(&[&name]), int(0))
+        }
+    };
+    let all = (0..=255).flat_map(|k| (0..16).map(equal(k))).take(3_900);
+    let mut row: Vec<Expr> = all.collect();
+    while row.len() > 1 {
+        let mut rest = row.into_iter();
+        row = std::iter::from_fn(|| {
+            let left = rest.next()?;
+            Some(match rest.next() {
+                Some(right) => binary(BinOp::LogicAnd, left, right),
+                None => left,
+            })
+        })
+        .collect();
+    }
+    let module = mixed("Link", 1, 1);
+    ir(vec![Module {
+        transitions: vec![Transition {
+            guard: row.pop(),
+            ..module.transitions[0].clone()
+        }],
+        ..module
+    }])
+}
+
 /// 16 modules of 255 transitions with one state and one pattern: each pair of
 /// a module is found, 518,160 in all.
 pub fn every_pair() -> Sample {
