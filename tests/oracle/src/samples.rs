@@ -82,7 +82,7 @@ pub fn faulty() -> Ir {
     }])
 }
 
-/// 12 modules of as many properties and assumptions as there may be, all of
+/// 11 modules of as many properties and assumptions as there may be, all of
 /// different names.
 pub fn claims() -> Ir {
     let named = |k: usize| property(&format!("p{k:03}"), holds(boolean(true)));
@@ -91,7 +91,7 @@ pub fn claims() -> Ir {
         assumptions: (255..510).map(named).collect(),
         ..bare(&format!("M{k}"))
     };
-    ir((0..12).map(module).collect())
+    ir((0..11).map(module).collect())
 }
 
 /// One transition whose guard is 3,900 equalities of as many names: what costs
