@@ -6,14 +6,13 @@ use mathlib.Core.Bool.{Bool, true, false, cond, not, _&&_, _||_}
 use mathlib.Core.List.{List, [], _∷_, _++_, map}
 use mathlib.Core.Option.{Option, none, some}
 use native.Mathlib.Omega.{arith}
-use native.Mathlib.Nat.{sub-zero}
-use lib.ListN.{length, getD, getElem?, drop, take, drop-of-length-le}
-use Rattle.reading.specs.Read.{ok, pick}
+use lib.ListN.{length, getD, getElem?}
+use Rattle.reading.specs.Read.{pick}
 use Rattle.reading.specs.Limits.{maxList}
 use Rattle.reading.specs.Item.{readCount}
 use Rattle.reading.specs.Text.{Name}
-use Rattle.reading.specs.Combine.{entries, listOf}
-use Rattle.reading.specs.Decl.{ConstructorGroup, readConstructorVariant, readConstructorGroup}
+use Rattle.reading.specs.Combine.{listOf}
+use Rattle.reading.specs.Decl.{ConstructorGroup, readConstructorVariant}
 use Rattle.reading.specs.Pattern.{PatternVariant}
 use Rattle.reading.specs.Transition.{Transition}
 use Rattle.reading.specs.Skip.{textAt}
@@ -22,37 +21,28 @@ use Rattle.reading.specs.declared.cursor.Cursor.{Cursor}
 use Rattle.reading.specs.declared.fault.Fault.{Fault}
 use Rattle.reading.specs.declared.item.Answer.{Answer}
 use Rattle.reading.specs.declared.item.Answer.the-variants.{Got, Refused}
-use Rattle.reading.proofs.Rules.{no}
-use Rattle.reading.proofs.HeadSound.{Bytes}
-use Rattle.reading.proofs.ExprLaws.{name-laws}
-use Rattle.reading.proofs.DeclLaws.{constructor-variant-laws, constructor-group-laws}
-use Rattle.reading.proofs.Views.{constructor-group-at}
-use Rattle.reading.proofs.ListViews.{list-at}
-use Rattle.reading.proofs.Walks.{name-text}
-use Rattle.typing.specs.Causes.{firstOf}
-use Rattle.typing.specs.Names.{eqName, member, called, firstCalled}
+use Rattle.reading.proofs.DeclLaws.{constructor-variant-laws}
+use Rattle.typing.specs.Names.{eqName, member, firstCalled}
 use Rattle.typing.specs.Patterns.{declaredName, patternVariantName}
-use Rattle.typing.specs.Table.{afterItem, afterHead, afterTag, pairsFrom, pairsOf, pairsAt, Past}
+use Rattle.typing.specs.Table.{afterTag, Past}
 use Rattle.typing.specs.declared.table.Found.{Found}
 use Rattle.typing.specs.declared.table.Found.the-variants.{At, Nothing}
-use Rattle.typing.proofs.TableLaws.{pairs-length}
-use Rattle.typing.proofs.EnvLaws.{entry, after-is, fields-head}
+use Rattle.typing.proofs.EnvLaws.{after-is}
 use Rattle.typing.proofs.FirstLaws.{variant-text}
 use Rattle.findings.specs.Lists.{Placed, placed, any, each}
 use Rattle.findings.specs.Finding.{Note, note, noted}
-use Rattle.typing.specs.First.{groupName}
+use Rattle.typing.specs.First.{groupName, GroupsAt, GroupFound, group-here, group-nothing, FirstVariants}
 use Rattle.findings.specs.Mentions.{groupVariants, variantUsed}
 use Rattle.findings.specs.Warnings.{usesEvent, deadIn, dead}
 use Rattle.findings.specs.Noting.{Noted}
-use Rattle.findings.specs.Scene.{PairsFilled, Reads, Rows}
-use Rattle.findings.specs.Promises.{at-place, Groups}
+use Rattle.findings.specs.Scene.{Rows}
+use Rattle.findings.specs.Promises.{at-place}
 use Rattle.findings.specs.WarningPromises.{NotesDead}
-use Rattle.findings.specs.Uses.{variantNames, isBare, patternNames, patternBare, namedBy, bareBy, usedBy, NamesAt, VariantsAt, variants-here, variants-none, UsesOf, IsUsed, GroupsAt, FirstVariants, GroupKnown, unusedVariant, NotesVariant, NotesVariants, NotesGroup, NotesGroups}
+use Rattle.findings.specs.Uses.{variantNames, isBare, patternNames, patternBare, namedBy, bareBy, usedBy, NamesAt, VariantsAt, variants-here, variants-none, UsesOf, IsUsed, GroupKnown, unusedVariant, NotesVariant, NotesVariants, NotesGroup, NotesGroups}
 use Rattle.findings.specs.declared.uses.Uses.{Uses}
 use Rattle.findings.proofs.NoteLaws.{note-as}
-use Rattle.findings.proofs.EachLaws.{Left, left-all, get-some, drop-get, eachFrom, each-turn, each-done, Walking, walk-start, walk-refused, walk-more, walk-done}
+use Rattle.findings.proofs.EachLaws.{Left, left-all, get-some, eachFrom, each-turn, each-done, Walking, walk-start, walk-refused, walk-more, walk-done}
 use Rattle.findings.proofs.ListLaws.{each-cong}
-use Rattle.findings.proofs.ClaimTables.{pairs-few, filled-front}
 
 -- the transitions that use a variant, by what their patterns give
 absent-use : (a n b : Bool) → (a || (n || (b && a))) ≡ (n || a)
@@ -96,47 +86,10 @@ each-placed d f k [] = refl
 each-placed d f k (x ∷ xs) = ap (λ (l : List Note). f (at-place k (d x)) ++ l) (each-placed d f (suc k) xs)
 
 -- the variants of the first group of a name
-module _ (s groups : List ℕ) (w : Name) where
-  pub record FirstLeft (k : ℕ) : Type 0 where
-    pub of : (gs : List ConstructorGroup) → GroupsAt s groups gs → firstCalled groupName w (drop k gs) ≡ firstCalled groupName w gs
-
-  pub first-start : FirstLeft 0
-  first-start = record { of = λ gs g. refl }
-
-  module _ (k : ℕ) (l : FirstLeft k) {count : ℕ} (c : count ≡ length groups / 2) where
-    pub first-done : count ≤ k → FirstVariants s groups w Nothing
-    unfolding firstCalled groupVariants
-    first-done h = record {
-      of = λ gs g.
-          let m = g .room in
-          subst (λ (o : Option ConstructorGroup). VariantsAt s Nothing (groupVariants o)) (ap (firstCalled groupName w) (sym (drop-of-length-le gs {i = k} (omega arith))) ∙ l .of gs g) variants-none;
-    }
-
-    module _ {text : Name} {b : Bool} (h : k < count) (t : text ≡ textAt s (getD groups (2 * k) 0)) (q : b ≡ eqName text w) where
-      here : (gs : List ConstructorGroup) (g : GroupsAt s groups gs) (x : ConstructorGroup) → getElem? gs k ≡ some x → firstCalled groupName w gs ≡ firstOf (pick b (some x) none) (firstCalled groupName w (drop (k + 1) gs))
-      unfolding firstCalled called
-      here gs g x e =
-          sym (l .of gs g)
-          ∙ ap (firstCalled groupName w) (drop-get gs k x e)
-          ∙ ap (λ (y : Bool). firstOf (pick y (some x) none) (firstCalled groupName w (drop (k + 1) gs))) (sym (q ∙ ap (λ (y : Name). eqName y w) (t ∙ g .name-is k x e)))
-
-      pub first-hit : b ≡ true → FirstVariants s groups w (At (getD groups (2 * k + 1) 0))
-      unfolding firstOf pick groupVariants
-      first-hit z = record {
-        of = λ gs g.
-            let m = g .room in
-            let x = get-some gs k (omega arith) in
-            subst (λ (o : Option ConstructorGroup). VariantsAt s (At (getD groups (2 * k + 1) 0)) (groupVariants o)) (sym (here gs g (x .0) (x .1) ∙ ap (λ (y : Bool). firstOf (pick y (some (x .0)) none) (firstCalled groupName w (drop (k + 1) gs))) z)) (variants-here (g .variants-are k (x .0) (x .1)));
-      }
-
-      pub first-miss : b ≡ false → FirstLeft (k + 1)
-      unfolding firstOf pick
-      first-miss z = record {
-        of = λ gs g.
-            let m = g .room in
-            let x = get-some gs k (omega arith) in
-            sym (here gs g (x .0) (x .1) ∙ ap (λ (y : Bool). firstOf (pick y (some (x .0)) none) (firstCalled groupName w (drop (k + 1) gs))) z);
-      }
+found-variants : {s : List ℕ} {f : Found} {o : Option ConstructorGroup} → GroupFound s f o → VariantsAt s f (groupVariants o)
+unfolding groupVariants
+found-variants (group-here e) = variants-here (record { end = _; is = e })
+found-variants group-nothing = variants-none
 
 -- a variant
 pub variant-noted : (s : List ℕ) (owner : ℕ) (o : List ℕ) (skip n r : ℕ) (o′ : List ℕ) (found : Found) (table : List ℕ) (u : Uses) (g at j : ℕ) {key : ℕ} {text : Name} {used : Bool} → key ≡ afterTag s at → text ≡ textAt s key → IsUsed s found table u text used → Noted owner o skip n (noted (not used) (note 22 g j 0)) r o′ → NotesVariant s owner o skip n r o′ found table u g at j
@@ -175,14 +128,14 @@ group-noted s owner o skip n r o′ rows count groups g {text} {text₂} {table}
       let h : GroupKnown s found table u = record {
         variants = groupVariants (firstCalled groupName (x .name) gs);
         names = namedBy (x .name) ts;
-        variants-at = subst (λ (v : Name). VariantsAt s found (groupVariants (firstCalled groupName v gs))) b (z .of gs c);
+        variants-at = found-variants (subst (λ (v : Name). GroupFound s found (firstCalled groupName v gs)) b (z .of gs c));
         named = subst (λ (v : Name). NamesAt s table (u .named) (namedBy v ts)) a (y .names ts w q);
       } in
       let m : u .bare ≡ bareBy (x .name) ts = y .bare ts w q ∙ ap (λ (v : Name). bareBy v ts) a in
       note-as owner _
       (each-cong (placed 0 (x .variants)) (λ v. ap (λ (k : Bool). noted (not (usedBy k (h .variants) (h .names) (declaredName (v .item)))) (note 22 g (v .place) 0)) m ∙ ap (λ (k : Bool). noted (not k) (note 22 g (v .place) 0)) (sym (uses-any gs (x .name) (declaredName (v .item)) ts)))
       ∙ each-placed declaredName (λ v. noted (not (any (usesEvent gs (x .name) (v .item)) ts)) (note 22 g (v .place) 0)) 0 (x .variants))
-      (p .of h (x .variants) (c .variants-are g x e));
+      (p .of h (x .variants) (record { end = c .variants-are g x e .0; is = c .variants-are g x e .1 }));
 }
 
 -- groups, one after the other
@@ -205,42 +158,5 @@ module _ (s : List ℕ) (owner : ℕ) (o : List ℕ) (skip n : ℕ) (rows : List
     pub groups-done : many ≤ g → NotesGroups s owner o skip n r o′ rows count groups many
     groups-done h = record { of = λ gs ts c m w q. each-done (deadIn gs ts) g gs (omega arith) (l .of gs ts c m w q) }
 
--- the table of a list of groups
-module _ (s : List ℕ) (B : Bytes s) where
-  group-pair : (gs : List ConstructorGroup) (k n : ℕ) → entries (length gs) readConstructorGroup s k ≡ ok gs n → (i : ℕ) (x : ConstructorGroup) → getElem? gs i ≡ some x → (textAt s (getD (pairsFrom (length gs) s k) (2 * i) 0) ≡ x .name) × Reads (listOf maxList readConstructorVariant) s (getD (pairsFrom (length gs) s k) (2 * i + 1) 0) (x .variants)
-  unfolding pairsFrom
-  group-pair [] k n e i x q = no (cc)
-  group-pair (y ∷ gs) k n e zero x q =
-      let u = entry readConstructorGroup s k y gs n e in
-      let v = constructor-group-at s k y (u .end) (u .here) in
-      let h : afterHead s k ≡ v .name = fields-head 2 s k tt (v .name) (v .opens) in
-      let j : afterItem s (afterHead s k) ≡ v .variants = ap (afterItem s) h ∙ after-is name-laws s B (v .name) (y .name) (v .variants) (v .name-is) in
-      let z : y ≡ x = cc in (
-        ap (textAt s) h ∙ name-text s (v .name) (y .name) (v .variants) (v .name-is) ∙ ap groupName z,
-        record { end = u .end; is = ap (listOf maxList readConstructorVariant s) j ∙ v .variants-is ∙ ap (λ (w : ConstructorGroup). ok (w .variants) (u .end)) z },
-      )
-  group-pair (y ∷ gs) k n e (suc i) x q =
-      let u = entry readConstructorGroup s k y gs n e in
-      let a : 2 * suc i ≡ suc (suc (2 * i)) = omega arith in
-      let b : 2 * suc i + 1 ≡ suc (suc (2 * i + 1)) = omega arith in
-      let p = after-is constructor-group-laws s B k y (u .end) (u .here) in
-      let r = group-pair gs (u .end) n (u .rest) i x q in
-      (rw (a, p) (r .0), rw (b, p) (r .1))
-
-  groups-at : (at : ℕ) (gs : List ConstructorGroup) → Groups s at gs → GroupsAt s (pairsAt s at) gs
-  unfolding pairsAt pairsOf
-  groups-at at gs g =
-      let l = list-at readConstructorGroup s maxList at gs (g .end) (g .is) in
-      let p = group-pair gs (l .first) (g .end) (l .entries-are) in
-      rw (l .opens) (record { room = pairs-length (length gs) s (l .first); name-is = λ k x e. p k x e .0; variants-are = λ k x e. p k x e .1 })
-
-module _ (s : List ℕ) (owner : ℕ) (o : List ℕ) (skip n r : ℕ) (o′ rows : List ℕ) (count events : ℕ) {w : ℕ} {table table′ : List ℕ} (f : PairsFilled s events table w table′) where
-  pub dead-noted : NotesGroups s owner o skip n r o′ rows count (take (w - 0) table′) (w / 2) → length table ≡ 512 → NotesDead s owner o skip n r o′ rows count events
-  dead-noted p l = record {
-    of = λ gs ts g y q.
-        let part : take (w - 0) table′ ≡ pairsAt s events = rw sub-zero (filled-front table (pairsAt s events) (omega (arith, pairs-few s events)) (f .filled)) in
-        let c = groups-at s (f .each) events gs g in
-        let m = f .filled .many in
-        let i = c .room in
-        p .of gs ts (rw part c) (omega arith) y q;
-  }
+pub dead-noted : (s : List ℕ) (owner : ℕ) (o : List ℕ) (skip n r : ℕ) (o′ rows : List ℕ) (count : ℕ) (events : List ℕ) {many : ℕ} → many ≡ length events / 2 → NotesGroups s owner o skip n r o′ rows count events many → NotesDead s owner o skip n r o′ rows count events
+dead-noted s owner o skip n r o′ rows count events m p = record { of = λ gs ts g y q. let i = g .room in p .of gs ts g (omega arith) y q }

@@ -19,6 +19,7 @@ use Rattle.reading.proofs.Rules.{no}
 use Rattle.reading.proofs.Answers.{num, out}
 use Rattle.reading.proofs.ItemLaws.{count-kind}
 use Rattle.reading.proofs.ListViews.{list-at, rest-all, turn}
+pub use Rattle.typing.proofs.GroupLaws.{get-some, drop-get}
 use Rattle.findings.specs.Lists.{Placed, placed, each}
 use Rattle.findings.specs.Finding.{Note}
 use Rattle.findings.specs.Noting.{Noted}
@@ -47,21 +48,10 @@ module _ (owner : ℕ) (o : List ℕ) (skip n : ℕ) (all : List Note) where
     pub left-none : rest ≡ [] → Noted owner o skip n all r o′
     left-none e = note-as owner all (sym (l .split ∙ ap (λ (x : List Note). l .made ++ x) e ∙ append-nil (l .made))) (l .noted)
 
-pub get-some : {A : Type 0} (xs : List A) (i : ℕ) → i < length xs → (x : A) × (getElem? xs i ≡ some x)
-get-some [] i h = absurd (omega arith)
-get-some (y ∷ xs) zero h = (y, refl)
-get-some (y ∷ xs) (suc i) h = get-some xs i (omega arith)
-
 pub get-below : {A : Type 0} (xs : List A) (i : ℕ) (x : A) → getElem? xs i ≡ some x → i < length xs
 get-below [] i x e = no (cc)
 get-below (y ∷ xs) zero x e = omega arith
 get-below (y ∷ xs) (suc i) x e = let h = get-below xs i x e in omega arith
-
--- the entries from number i on are the entry at i and those after it
-pub drop-get : {A : Type 0} (xs : List A) (i : ℕ) (x : A) → getElem? xs i ≡ some x → drop i xs ≡ x ∷ drop (i + 1) xs
-drop-get [] i x e = no (cc)
-drop-get {A} (y ∷ xs) zero x e = let q : y ≡ x = cc in ap (λ (z : A). z ∷ xs) q
-drop-get (y ∷ xs) (suc i) x e = let q : suc (i + 1) ≡ suc i + 1 = omega arith in drop-get xs i x e ∙ ap (λ (n : ℕ). x ∷ drop n (y ∷ xs)) q
 
 -- what is given of the entries from number i on
 module _ {A B : Type 0} (f : Placed A → List B) where

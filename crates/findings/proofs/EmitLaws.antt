@@ -14,20 +14,21 @@ use Rattle.reading.proofs.TransitionLaws.{output-expr-laws}
 use Rattle.typing.specs.Env.{Env, Agree}
 use Rattle.typing.specs.Table.{envAt, Past}
 use Rattle.typing.proofs.EnvLaws.{after-is}
+use Rattle.typing.specs.First.{GroupsAt}
 use Rattle.findings.specs.Lists.{Placed}
 use Rattle.findings.specs.Finding.{Note}
 use Rattle.findings.specs.Errors.{emitNotes}
-use Rattle.findings.specs.Promises.{Groups, NotesOutput, NotesEmits}
+use Rattle.findings.specs.Promises.{NotesOutput, NotesEmits}
 use Rattle.findings.proofs.EachLaws.{Walking, walk-refused, walk-more, walk-done}
 
 -- what is known where the outputs are judged
-pub record Emitting (s : List ℕ) (outputs : ℕ) (names enums : List ℕ) : Type 0 where
+pub record Emitting (s : List ℕ) (outputs names enums : List ℕ) : Type 0 where
   pub env : Env
   pub groups : List ConstructorGroup
-  pub declared : Groups s outputs groups
+  pub declared : GroupsAt s outputs groups
   pub agree : Agree (envAt s names enums) env
 
-module _ (s : List ℕ) (at i outputs : ℕ) (names enums : List ℕ) (owner : ℕ) (o : List ℕ) (skip n : ℕ) where
+module _ (s : List ℕ) (at i : ℕ) (outputs names enums : List ℕ) (owner : ℕ) (o : List ℕ) (skip n : ℕ) where
   abbrev emitting : Emitting s outputs names enums → Placed OutputExpr → List Note
   emitting h = emitNotes (h .env) (h .groups) i
 

@@ -5,8 +5,9 @@ pub mod NoteLaws
 pub mod RowLaws
 pub mod MoveLaws
 pub mod EachLaws
-pub mod SceneLaws
 pub mod ClaimTables
+pub mod GroupTables
+pub mod SceneLaws
 pub mod ListLaws
 pub mod Permutations
 pub mod Places

@@ -18,7 +18,7 @@ use Rattle.typing.proofs.TableLaws.{pairs-length}
 use Rattle.findings.specs.Mentions.{states}
 use Rattle.findings.specs.Errors.{isEmpty, opening, claims, closing, errors}
 use Rattle.findings.specs.Warnings.{warnings}
-use Rattle.findings.specs.Scene.{Opens}
+use Rattle.findings.specs.Scene.{eventsIn, outputsIn, Opens}
 use Rattle.findings.specs.Promises.{ClaimsSet, FirstStates, NotesOpening, NotesMoves, NotesOnError, NotesRepeats, NotesFormulas}
 use Rattle.findings.specs.PairPromises.{Printed, pairNotes, NotesPairs}
 use Rattle.findings.specs.WarningPromises.{NotesUnreachable, NotesDead, NotesUnused, NotesImpossible}
@@ -58,11 +58,11 @@ names-set s places o t p e c {v} {p₇} {w} {p₃} {all} h k e₇ f e₃ g e₉ 
       };
     }
 
-pub closing-noted : (s : List ℕ) (owner : ℕ) {o o₁ o₂ o′ : List ℕ} {skip n a b r : ℕ} {places : List ℕ} {found : Found} {names enums properties : List ℕ} {p₂ p₆ : ℕ} → p₂ ≡ getD places 2 0 → p₆ ≡ getD places 6 0 → NotesOnError s owner o skip n a o₁ p₂ found p₆ names enums → NotesRepeats s owner o₁ skip a b o₂ properties → NotesFormulas s owner o₂ skip b r o′ properties names enums → NotesClosing s owner o skip n r o′ places found names enums properties
+pub closing-noted : (s : List ℕ) (owner : ℕ) {o o₁ o₂ o′ : List ℕ} {skip n a b r : ℕ} {places : List ℕ} {found : Found} {names enums properties p₆ : List ℕ} {p₂ : ℕ} → p₂ ≡ getD places 2 0 → p₆ ≡ outputsIn places → NotesOnError s owner o skip n a o₁ p₂ found p₆ names enums → NotesRepeats s owner o₁ skip a b o₂ properties → NotesFormulas s owner o₂ skip b r o′ properties names enums → NotesClosing s owner o skip n r o′ places found names enums properties
 unfolding closing
 closing-noted s owner i j p q u = record {
   of = λ m g h f c.
-      note-then owner (note-then owner (p .of (m .on-error) m (moved i (g .on-error-is)) h (moved j (g .outputs-are)) f) (q .of (claims m) c)) (u .of (claims m) (forModule m) c f);
+      note-then owner (note-then owner (p .of (m .on-error) m (moved i (g .on-error-is)) h (rw j (g .output-groups)) f) (q .of (claims m) c)) (u .of (claims m) (forModule m) c f);
 }
 
 -- whether there are transitions
@@ -89,13 +89,13 @@ pub errors-noted : (s : List ℕ) (owner : ℕ) {o o₁ o′ : List ℕ} {skip n
 unfolding errors
 errors-noted s owner table table′ vars x t w = record { of = λ m g rs ps e h f c. note-then owner (x .of m g rs ps e h f) (w .of m g h (rw t f) c) }
 
-pub doubts-noted : (s : List ℕ) (owner : ℕ) {o o₁ o₂ o′ : List ℕ} {skip n a b r : ℕ} {places rows prints : List ℕ} {found : Found} {count p₄ p₅ : ℕ} → p₄ ≡ getD places 4 0 → NotesUnreachable s owner o skip n a o₁ rows count prints found p₄ → p₅ ≡ getD places 5 0 → NotesDead s owner o₁ skip a b o₂ rows count p₅ → NotesUnused s owner o₂ skip b r o′ rows count places → NotesDoubts s owner o skip n r o′ places found rows prints count
+pub doubts-noted : (s : List ℕ) (owner : ℕ) {o o₁ o₂ o′ : List ℕ} {skip n a b r : ℕ} {places rows prints : List ℕ} {found : Found} {count p₄ : ℕ} {p₅ : List ℕ} → p₄ ≡ getD places 4 0 → NotesUnreachable s owner o skip n a o₁ rows count prints found p₄ → p₅ ≡ eventsIn places → NotesDead s owner o₁ skip a b o₂ rows count p₅ → NotesUnused s owner o₂ skip b r o′ rows count places → NotesDoubts s owner o skip n r o′ places found rows prints count
 doubts-noted s owner i x j y z = record {
   of = λ m g rs ps e h.
       note-then owner
       (note-then owner
       (x .of (states m) (m .initial-state) (m .transitions) h (moved i (g .initial-state-is)) rs ps e)
-      (y .of (m .events) (m .transitions) (moved j (g .events-are)) rs e))
+      (y .of (m .events) (m .transitions) (rw j (g .event-groups)) rs e))
       (z .of m g rs e);
 }
 

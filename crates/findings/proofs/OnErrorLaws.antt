@@ -22,20 +22,21 @@ use Rattle.typing.specs.Env.{Agree, forModule}
 use Rattle.typing.specs.Table.{afterItem, afterHead, Past, envAt}
 use Rattle.typing.specs.declared.table.Found.{Found}
 use Rattle.typing.proofs.EnvLaws.{after-is, fields-head}
+use Rattle.typing.specs.First.{GroupsAt}
 use Rattle.findings.specs.Lists.{Placed}
 use Rattle.findings.specs.Finding.{Note}
 use Rattle.findings.specs.Mentions.{states}
 use Rattle.findings.specs.Errors.{errorEmitNotes, onErrorNotes}
-use Rattle.findings.specs.Promises.{Groups, NotesState, NotesOutput, NotesErrorEmits, NotesOnError}
+use Rattle.findings.specs.Promises.{NotesState, NotesOutput, NotesErrorEmits, NotesOnError}
 use Rattle.findings.proofs.NoteLaws.{note-nothing, note-then, note-as}
 use Rattle.findings.proofs.RowLaws.{moved}
 use Rattle.findings.proofs.OptionLaws.{not-given, is-given}
 use Rattle.findings.proofs.EachLaws.{Walking, walk-refused, walk-more, walk-done}
 
 -- what the outputs are judged by
-module _ (s : List ℕ) (outputs : ℕ) (names enums : List ℕ) where
+module _ (s outputs names enums : List ℕ) where
   abbrev pub Judged : Type 0
-  Judged = (m : Module) × Groups s outputs (m .outputs) × Agree (envAt s names enums) (forModule m)
+  Judged = (m : Module) × GroupsAt s outputs (m .outputs) × Agree (envAt s names enums) (forModule m)
 
   abbrev pub judgedEmits : Judged → Placed OutputExpr → List Note
   judgedEmits h x = errorEmitNotes (h .0) x
@@ -43,7 +44,7 @@ module _ (s : List ℕ) (outputs : ℕ) (names enums : List ℕ) where
   abbrev pub ErrorEmits : (at owner : ℕ) (o : List ℕ) (skip n count k i r : ℕ) (o′ : List ℕ) → Type 0
   ErrorEmits at owner o skip n = Walking readOutputExpr judgedEmits s maxList at owner o skip n
 
-module _ (s : List ℕ) (outputs : ℕ) (names enums : List ℕ) (at owner : ℕ) {o : List ℕ} {skip n : ℕ} where
+module _ (s outputs names enums : List ℕ) (at owner : ℕ) {o : List ℕ} {skip n : ℕ} where
   pub error-emits-refused : {a : Answer} {t : Fault} {p : ℕ} → a ≡ answer (readCount maxList s at) → a ≡ Refused t p → NotesErrorEmits s owner o skip n n o at outputs names enums
   error-emits-refused e q = record {
     of = λ xs m g h f. walk-refused readOutputExpr (judgedEmits s outputs names enums) s maxList at owner o skip n e q xs g;
@@ -60,7 +61,7 @@ module _ (s : List ℕ) (outputs : ℕ) (names enums : List ℕ) (at owner : ℕ
     pub error-emits-done : count ≤ i → NotesErrorEmits s owner o skip n r o′ at outputs names enums
     error-emits-done b = record { of = λ xs m g h f. walk-done readOutputExpr (judgedEmits s outputs names enums) s maxList at owner o skip n w b (m, h, f) xs g }
 
-module _ (s : List ℕ) (owner : ℕ) {o : List ℕ} {skip n : ℕ} (at : ℕ) {found : Found} {outputs : ℕ} {names enums : List ℕ} {t : Bool} (e : t ≡ eqb (getD s at 0) 246) where
+module _ (s : List ℕ) (owner : ℕ) {o : List ℕ} {skip n : ℕ} (at : ℕ) {found : Found} {outputs names enums : List ℕ} {t : Bool} (e : t ≡ eqb (getD s at 0) 246) where
   pub on-error-absent : t ≡ true → NotesOnError s owner o skip n n o at found outputs names enums
   unfolding onErrorNotes
   on-error-absent q = record {

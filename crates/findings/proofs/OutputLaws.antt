@@ -13,10 +13,10 @@ use Rattle.findings.specs.Noting.{Noted, numbered}
 use Rattle.findings.specs.Promises.{NotesOutput}
 use Rattle.findings.proofs.NoteLaws.{note-as, blamed-numbered}
 
-module _ (s names enums : List ℕ) (owner : ℕ) {o o′ : List ℕ} {skip n r at outputs site first second : ℕ} {b : Blame} {c : ℕ} where
+module _ (s names enums : List ℕ) (owner : ℕ) {o o′ : List ℕ} {skip n r at : ℕ} {outputs : List ℕ} {site first second : ℕ} {b : Blame} {c : ℕ} where
   pub output-noted : JudgesOutput (envAt s names enums) s at outputs b → c ≡ blameWord (blameOf s b) → Noted owner o skip n (numbered site first second c) r o′ → NotesOutput s owner o skip n r o′ at outputs names enums site first second
   output-noted j e p = record {
     of = λ x gs env h g a.
-        let u : c ≡ blameWord (validateOutputExpr gs env x) = e ∙ ap blameWord (j .of gs (g .end) x (h .end) (g .is) (h .is) ∙ output-agree a gs x) in
+        let u : c ≡ blameWord (validateOutputExpr gs env x) = e ∙ ap blameWord (j .of gs x (h .end) g (h .is) ∙ output-agree a gs x) in
         note-as owner _ (ap (numbered site first second) u ∙ blamed-numbered site first second (validateOutputExpr gs env x)) p;
   }

@@ -1,14 +1,15 @@
 -- The tables of places that are filled have the places where a module's fields and its transitions' fields read.
-use Prim.Native.Nat.{ℕ, zero, suc, _+_, _*_, _≤_}
+use Prim.Native.Nat.{ℕ, zero, suc, _+_, _*_, _<_, _≤_}
 use mathlib.Core.Path.{_≡_, refl, sym, ap, _∙_}
 use mathlib.Core.List.{List, [], _∷_, _++_, append-assoc}
 use mathlib.Core.Option.{some}
 use native.Mathlib.Omega.{arith}
-use lib.ListN.{length, getD, getElem?, set, drop, length-append}
-use lib.Seq.{sets, sets-eq, getD-append-add}
-use Rattle.reading.specs.Read.{ok}
+use lib.ListN.{length, getD, getElem?, set, drop, length-append, List·getD-append}
+use lib.Seq.{sets, length-sets, sets-eq, getD-append-add}
+use Rattle.reading.specs.Read.{Reader, ok}
 use Rattle.reading.specs.Limits.{maxU32, maxU64, maxList}
 use Rattle.reading.specs.Combine.{entries, listOf}
+use Rattle.reading.specs.Decl.{readConstructorGroup}
 use Rattle.reading.specs.Transition.{Transition, readTransition}
 use Rattle.reading.specs.Module.{Module, readModule}
 use Rattle.reading.specs.Views.{TransitionAt, ModuleAt}
@@ -24,11 +25,15 @@ use Rattle.reading.proofs.ListLaws.{list-laws}
 use Rattle.reading.proofs.OptionLaws.{option-laws, number-solid}
 use Rattle.reading.proofs.Views.{transition-at, module-at}
 use Rattle.reading.proofs.ListViews.{list-at}
-use Rattle.typing.specs.Table.{afterItem, afterHead, Past}
+use Rattle.typing.specs.Table.{afterItem, afterHead, pairsAt, Past}
+use Rattle.typing.specs.First.{GroupsAt}
 use Rattle.typing.proofs.EnvLaws.{entry, after-is, fields-head}
-use Rattle.findings.specs.Scene.{rowFrom, endFrom, rowAt, rowEnd, rowsFrom, rowsEnd, rowsOf, rowsAt, RowsFilled, field, RowAt, Rows, Scene, Opens}
+use Rattle.typing.proofs.GroupLaws.{groups-at}
+use Rattle.findings.specs.Scene.{rowFrom, endFrom, rowAt, rowEnd, rowsFrom, rowsEnd, rowsOf, rowsAt, RowsFilled, Reads, field, RowAt, Rows, groupsIn, eventsIn, outputsIn, withTable, withGroups, Scene, OpensRest, Opens}
 use Rattle.findings.specs.declared.rows.Listed.{Listed}
 use Rattle.findings.proofs.RowLaws.{row-length, sets-append}
+use Rattle.findings.proofs.ClaimTables.{pairs-few}
+use Rattle.findings.proofs.GroupTables.{table-size, table-kept, table-back, table-spared}
 
 module _ (s : List ℕ) (B : Bytes s) where
   -- the places of a transition's fields
@@ -154,43 +159,72 @@ module _ (s : List ℕ) (B : Bytes s) where
       let j = after-is (list-laws var-decl-laws maxList (omega arith)) s B _ _ _ (v .vars-is) in
       record { view = v; row = rw (h, a, b, c, d, f, g, i); end = rw (h, a, b, c, d, f, g, i, j) }
 
-  scene-is : (at : ℕ) (m : Module) (n t p a : ℕ) (more : List ℕ) (v : PlacesAre at m n) → t ≡ v .view .transitions → p ≡ v .view .properties → a ≡ v .view .assumptions → Scene s ((rowAt 8 s at ++ t ∷ p ∷ a ∷ []) ++ more) m
-  scene-is at m n t p a more x e f g =
-      let v = x .view in
-      rw (x .row, e, f, g) (record {
-        name-is = record { end = _; is = v .name-is };
-        version-is = record { end = _; is = v .version-is };
-        on-error-is = record { end = _; is = v .on-error-is };
-        enums-are = record { end = _; is = v .enums-is };
-        initial-state-is = record { end = _; is = v .initial-state-is };
-        events-are = record { end = _; is = v .events-is };
-        outputs-are = record { end = _; is = v .outputs-is };
-        vars-are = record { end = _; is = v .vars-is };
-        transitions-are = record { end = _; is = v .transitions-is };
-        properties-are = record { end = _; is = v .properties-is };
-        assumptions-are = record { end = _; is = v .assumptions-is };
-      })
+  -- the places of a module's fields, in their order
+  abbrev placesOf : {at : ℕ} {m : Module} {n : ℕ} → ModuleAt s at m n → List ℕ
+  placesOf v = v .name ∷ v .version ∷ v .on-error ∷ v .enums ∷ v .initial-state ∷ v .events ∷ v .outputs ∷ v .vars ∷ v .transitions ∷ v .properties ∷ v .assumptions ∷ []
+
+  reads-there : {A : Type 0} (F : Reader A) {k k′ : ℕ} {x : A} {n : ℕ} → k ≡ k′ → F s k′ ≡ ok x n → Reads F s k x
+  reads-there F {n = n} h e = record { end = n; is = ap (F s) h ∙ e }
+
+  scene-is : (places : List ℕ) (at : ℕ) (m : Module) (n : ℕ) (v : ModuleAt s at m n) → ((i : ℕ) → i < 11 → getD places i 0 ≡ getD (placesOf v) i 0) → GroupsAt s (eventsIn places) (m .events) → GroupsAt s (outputsIn places) (m .outputs) → Scene s places m
+  scene-is places at m n v k e o = record {
+    name-is = reads-there _ (k 0 (omega arith)) (v .name-is);
+    version-is = reads-there _ (k 1 (omega arith)) (v .version-is);
+    on-error-is = reads-there _ (k 2 (omega arith)) (v .on-error-is);
+    enums-are = reads-there _ (k 3 (omega arith)) (v .enums-is);
+    initial-state-is = reads-there _ (k 4 (omega arith)) (v .initial-state-is);
+    events-are = reads-there _ (k 5 (omega arith)) (v .events-is);
+    outputs-are = reads-there _ (k 6 (omega arith)) (v .outputs-is);
+    vars-are = reads-there _ (k 7 (omega arith)) (v .vars-is);
+    transitions-are = reads-there _ (k 8 (omega arith)) (v .transitions-is);
+    properties-are = reads-there _ (k 9 (omega arith)) (v .properties-is);
+    assumptions-are = reads-there _ (k 10 (omega arith)) (v .assumptions-is);
+    event-groups = e;
+    output-groups = o;
+  }
+
+pub rest-opened : (s : List ℕ) (t : ℕ) (o o₁ o₂ o₃ q q₁ : List ℕ) {a e : ℕ} {l : Listed} → o₁ ≡ set o 8 t → RowsFilled s t q l q₁ → o₂ ≡ set o₁ 9 (l .end) → Past s (l .end) a → o₃ ≡ set o₂ 10 a → Past s a e → OpensRest s t o q (record { count = l .count; end = e }) o₃ q₁
+rest-opened s t o o₁ o₂ o₃ q q₁ {a} {e} {l} e₁ f e₂ pa e₃ pe = record { listed = l; assumptions = a; filled = f; words = rw (e₃, e₂, e₁); after-properties = pa; after-all = pe; count = refl }
 
 -- what open_module leaves
-module _ (s : List ℕ) (at : ℕ) (o₀ o₁ o₂ o₃ o₄ q₀ q₁ : List ℕ) (t a e : ℕ) (l : Listed) where
-  pub opened : 11 ≤ length o₀ → 2040 ≤ length q₀ → t ≡ rowEnd 8 s at → o₁ ≡ sets o₀ 0 (rowAt 8 s at) → o₂ ≡ set o₁ 8 t → RowsFilled s t q₀ l q₁ → o₃ ≡ set o₂ 9 (l .end) → Past s (l .end) a → o₄ ≡ set o₃ 10 a → Past s a e → Opens s at (record { count = l .count; end = e }) o₄ q₁
-  opened h k et e₁ e₂ f e₃ pa e₄ pe = record {
+module _ (s : List ℕ) (at : ℕ) (o₀ o₁ o₄ o₅ q₀ q₁ : List ℕ) (t : ℕ) (r : Listed) where
+  pub opened : 1033 ≤ length o₀ → 2040 ≤ length q₀ → t ≡ rowEnd 8 s at → o₁ ≡ sets o₀ 0 (rowAt 8 s at) → OpensRest s t o₁ q₀ r o₄ q₁ → o₅ ≡ withGroups s o₄ → Opens s at r o₅ q₁
+  unfolding withGroups
+  opened h k et e₁ y e₅ = record {
     of = λ m n g.
+        let l = y .listed in
+        let a = y .assumptions in
+        let pa = y .after-properties in
+        let pe = y .after-all in
         let B = pa .each in
         let x = places-are s B at m n g in
         let v = x .view in
         let u : t ≡ v .transitions = et ∙ x .end in
-        let w = rows-set s B t q₀ l q₁ (m .transitions) (v .properties) k f (ap (listOf maxList readTransition s) u ∙ v .transitions-is) in
+        let w = rows-set s B t q₀ l q₁ (m .transitions) (v .properties) k (y .filled) (ap (listOf maxList readTransition s) u ∙ v .transitions-is) in
         let z : a ≡ v .assumptions = pa .is ∙ ap (afterItem s) (w .end) ∙ after-is (list-laws property-laws maxList (omega arith)) s B _ _ _ (v .properties-is) in
-        let y : e ≡ n = pe .is ∙ ap (afterItem s) z ∙ after-is (list-laws property-laws maxList (omega arith)) s B _ _ _ (v .assumptions-is) in
+        let end : r .end ≡ n = pe .is ∙ ap (afterItem s) z ∙ after-is (list-laws property-laws maxList (omega arith)) s B _ _ _ (v .assumptions-is) in
         let len = row-length 8 s (afterHead s at) in
         let whole : o₄ ≡ (rowAt 8 s at ++ t ∷ l .end ∷ a ∷ []) ++ drop (0 + length (rowAt 8 s at ++ t ∷ l .end ∷ a ∷ [])) o₀ =
-        rw (e₄, e₃, e₂, e₁) (sym (sets-append o₀ 0 (rowAt 8 s at) (t ∷ l .end ∷ a ∷ []) ∙ ap (λ (j : ℕ). sets (sets o₀ 0 (rowAt 8 s at)) j (t ∷ l .end ∷ a ∷ [])) (omega arith))) ∙ sets-eq (rowAt 8 s at ++ t ∷ l .end ∷ a ∷ []) o₀ 0 (omega (arith, length-append (rowAt 8 s at) (t ∷ l .end ∷ a ∷ []))) in
+        y .words ∙ rw e₁ (sym (sets-append o₀ 0 (rowAt 8 s at) (t ∷ l .end ∷ a ∷ []) ∙ ap (λ (j : ℕ). sets (sets o₀ 0 (rowAt 8 s at)) j (t ∷ l .end ∷ a ∷ [])) (omega arith))) ∙ sets-eq (rowAt 8 s at ++ t ∷ l .end ∷ a ∷ []) o₀ 0 (omega (arith, length-append (rowAt 8 s at) (t ∷ l .end ∷ a ∷ []))) in
+        let fields : rowAt 8 s at ++ t ∷ l .end ∷ a ∷ [] ≡ placesOf s B v = rw (x .row, u, w .end, z) in
+        let stands : (i : ℕ) → i < 11 → getD o₄ i 0 ≡ getD (placesOf s B v) i 0 = λ i j. ap (λ (p : List ℕ). getD p i 0) whole ∙ List·getD-append (rowAt 8 s at ++ t ∷ l .end ∷ a ∷ []) _ 0 i (omega (arith, ap length fields)) ∙ ap (λ (p : List ℕ). getD p i 0) fields in
+        let size : length o₄ ≡ length o₀ = ap length (y .words) ∙ length-sets o₁ 8 (t ∷ l .end ∷ a ∷ []) ∙ ap length e₁ ∙ length-sets o₀ 0 (rowAt 8 s at) in
+        let E = pairsAt s (getD o₄ 5 0) in
+        let O = pairsAt s (getD o₄ 6 0) in
+        let few = pairs-few s (getD o₄ 5 0) in
+        let few′ = pairs-few s (getD o₄ 6 0) in
+        let p = withTable o₄ 11 13 E in
+        let long = table-size o₄ 11 13 E few in
+        let kept : (i : ℕ) → i < 11 → getD (withTable p 12 523 O) i 0 ≡ getD o₄ i 0 = λ i j. table-kept p 12 523 O few′ i (omega arith) (λ q. omega arith) ∙ table-kept o₄ 11 13 E few i (omega arith) (λ q. omega arith) in
+        let events : eventsIn (withTable p 12 523 O) ≡ E = table-spared p 12 523 O 13 (getD (withTable p 12 523 O) 11 0) (omega arith) (omega arith) ∙ ap (groupsIn p 13) (table-kept p 12 523 O few′ 11 (omega arith) (λ q. omega arith)) ∙ table-back o₄ 11 13 E few (omega arith) (omega arith) in
+        let outputs : outputsIn (withTable p 12 523 O) ≡ O = table-back p 12 523 O few′ (omega arith) (omega arith) in
+        let c = groups-at s B (getD o₄ 5 0) (m .events) _ (ap (listOf maxList readConstructorGroup s) (stands 5 (omega arith)) ∙ v .events-is) in
+        let d = groups-at s B (getD o₄ 6 0) (m .outputs) _ (ap (listOf maxList readConstructorGroup s) (stands 6 (omega arith)) ∙ v .outputs-is) in
         record {
           bytes = B;
-          scene = rw whole (scene-is s B at m n t (l .end) a _ x u (w .end) z);
+          scene = rw e₅ (scene-is s B (withTable p 12 523 O) at m n v (λ i j. kept i j ∙ stands i j) (rw events c) (rw outputs d));
           rows-are = w .rows;
-          count = w .count;
-          end = y;
+          count = y .count ∙ w .count;
+          end = end;
         };
   }

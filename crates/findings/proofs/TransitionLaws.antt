@@ -24,7 +24,7 @@ use Rattle.findings.specs.Finding.{note, blamed}
 use Rattle.findings.specs.Mentions.{states}
 use Rattle.findings.specs.Errors.{bodyNotes, judgedNotes, own}
 use Rattle.findings.specs.Noting.{Noted, numbered}
-use Rattle.findings.specs.Scene.{Reads, field, Rows, Scene}
+use Rattle.findings.specs.Scene.{Reads, field, Rows, eventsIn, outputsIn, Scene}
 use Rattle.findings.specs.Prints.{printAt, Prints}
 use Rattle.findings.specs.Variants.{Variants, StatesFilled}
 use Rattle.findings.specs.Promises.{Known, NotesVariant, NotesGuard, NotesSets, NotesEmits, NotesBody, NotesHeads, NotesJudged, NotesTransition, NotesTransitions, NotesMoves}
@@ -35,7 +35,7 @@ use Rattle.findings.proofs.EachLaws.{Left, left-all, eachFrom, get-some
 reads-at : {A : Type 0} {F : Reader A} {s : List ℕ} {k k′ : ℕ} {x : A} {m : ℕ} → k ≡ k′ → F s k′ ≡ ok x m → Reads F s k x
 reads-at {F} {s} {m} h e = record { end = m; is = ap (F s) h ∙ e }
 
-module _ (s : List ℕ) (rows : List ℕ) (i outputs : ℕ) (vars names enums : List ℕ) (owner : ℕ) (o : List ℕ) (skip n : ℕ) where
+module _ (s : List ℕ) (rows : List ℕ) (i : ℕ) (outputs vars names enums : List ℕ) (owner : ℕ) (o : List ℕ) (skip n : ℕ) where
   pub body-noted : {g k e a b r : ℕ} {o₁ o₂ o₃ : List ℕ} → g ≡ field rows i 3 → NotesGuard s owner o skip n a o₁ g i names enums → k ≡ field rows i 6 → NotesSets s owner o₁ skip a b o₂ k i vars names enums → e ≡ field rows i 5 → NotesEmits s owner o₂ skip b r o₃ e i outputs names enums → NotesBody s owner o skip n r o₃ rows i outputs vars names enums
   unfolding bodyNotes
   body-noted h p h₁ p₁ h₂ p₂ = record {
@@ -55,17 +55,17 @@ module _ (s : List ℕ) (rows prints : List ℕ) (i : ℕ) (variants : List ℕ)
         y;
   }
 
--- a pattern and groups of events whose places are known
-pub judged-at : {s : List ℕ} {at at′ events events′ : ℕ} {table : List ℕ} {k : ℕ} {r : Bindings} {table′ : List ℕ} → at ≡ at′ → events ≡ events′ → JudgesPattern s at events table k r table′ → JudgesPattern s at′ events′ table k r table′
-judged-at {s} {at′} {events} {table} {k} {r} {table′} h g p = subst (λ (e : ℕ). JudgesPattern s at′ e table k r table′) g (subst (λ (a : ℕ). JudgesPattern s a events table k r table′) h p)
+-- a pattern whose place is known, and groups of events that are
+pub judged-at : {s : List ℕ} {at at′ : ℕ} {events events′ table : List ℕ} {k : ℕ} {r : Bindings} {table′ : List ℕ} → at ≡ at′ → events ≡ events′ → JudgesPattern s at events table k r table′ → JudgesPattern s at′ events′ table k r table′
+judged-at {s} {at′} {events} {table} {k} {r} {table′} h g p = subst (λ (e : List ℕ). JudgesPattern s at′ e table k r table′) g (subst (λ (a : ℕ). JudgesPattern s a events table k r table′) h p)
 
 -- the variables are a part of a table that starts where the table does
 module _ (s places rows prints : List ℕ) (i : ℕ) (variants : List ℕ) (cause : ℕ) (names : List ℕ) (k : ℕ) (enums : List ℕ) (owner : ℕ) (o : List ℕ) (skip n : ℕ) where
-  pub judged-noted : {a v r : ℕ} {o₁ o₂ : List ℕ} → NotesHeads s owner o skip n a o₁ rows prints i variants cause → v ≡ getD places 6 0 → NotesBody s owner o₁ skip a r o₂ rows i v (take (k - 0) names) names enums → NotesJudged s owner o skip n r o₂ places rows prints i variants cause (take k names) names enums
+  pub judged-noted : {a r : ℕ} {v o₁ o₂ : List ℕ} → NotesHeads s owner o skip n a o₁ rows prints i variants cause → v ≡ outputsIn places → NotesBody s owner o₁ skip a r o₂ rows i v (take (k - 0) names) names enums → NotesJudged s owner o skip n r o₂ places rows prints i variants cause (take k names) names enums
   judged-noted p h q =
       let z : k - 0 ≡ k = omega arith in
       let b = rw z at q in
-      record { of = λ m t env c w d v y u. note-then owner (p .of (states m) t w d v) (b .of t (m .outputs) env w (reads-at h (c .outputs-are .is)) y u) }
+      record { of = λ m t env c w d v y u. note-then owner (p .of (states m) t w d v) (b .of t (m .outputs) env w (rw h (c .output-groups)) y u) }
 
 -- what the bindings leave of a table, and what it has after them
 bound-names : (table pairs : List ℕ) (k : ℕ) → k + length pairs ≤ length table → take (k + length pairs) (sets table k pairs) ≡ take k table ++ pairs
@@ -89,12 +89,12 @@ unfolding forModule
 module-bound s vars enums T k bs m l b y = bindings-agree s vars enums T k bs (forModule m) l b y refl
 
 module _ (s places rows prints : List ℕ) (i : ℕ) (variants table : List ℕ) (vars : ℕ) (enums : List ℕ) (owner : ℕ) (o : List ℕ) (skip n : ℕ) where
-  pub transition-noted : {p : Bindings} {cause r : ℕ} {table′ o′ : List ℕ} → JudgesPattern s (field rows i 2) (getD places 5 0) table (2 * vars) p table′ → 2 * vars + p .words ≤ length table → cause ≡ blameWord (blameOf s (p .blame)) → NotesJudged s owner o skip n r o′ places rows prints i variants cause (take (2 * vars) (take (2 * vars + p .words - 0) table′)) (take (2 * vars + p .words - 0) table′) enums → NotesTransition s owner o skip n r o′ places rows prints i variants table (2 * vars) enums
+  pub transition-noted : {p : Bindings} {cause r : ℕ} {table′ o′ : List ℕ} → JudgesPattern s (field rows i 2) (eventsIn places) table (2 * vars) p table′ → 2 * vars + p .words ≤ length table → cause ≡ blameWord (blameOf s (p .blame)) → NotesJudged s owner o skip n r o′ places rows prints i variants cause (take (2 * vars) (take (2 * vars + p .words - 0) table′)) (take (2 * vars + p .words - 0) table′) enums → NotesTransition s owner o skip n r o′ places rows prints i variants table (2 * vars) enums
   unfolding own judgedNotes
   transition-noted {p} {cause} {r} {table′} {o′} j few e f = record {
     of = λ m t c w h v y.
         let q = validateEventPattern (m .events) (t .pattern) in
-        let b = j .of (m .events) (c .events-are .end) (t .pattern) (field rows i 3) (c .events-are .is) (w .pattern-is) in
+        let b = j .of (m .events) (t .pattern) (field rows i 3) (c .event-groups) (w .pattern-is) in
         let l : 2 * vars + length (b .pairs) ≤ length table = omega (arith, b .many) in
         let z : 2 * vars + p .words - 0 ≡ 2 * vars + length (b .pairs) = omega (arith, b .many) in
         let d : length (take (2 * vars) table) ≡ 2 * vars = length-take-le (2 * vars) table (omega arith) in

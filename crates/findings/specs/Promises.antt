@@ -10,7 +10,7 @@ use Rattle.reading.specs.Limits.{maxDepth, maxList}
 use Rattle.reading.specs.Text.{Name, readName, readVersion}
 use Rattle.reading.specs.Combine.{listOf, optional}
 use Rattle.reading.specs.Expr.{Expr, readExpr}
-use Rattle.reading.specs.Decl.{EnumDecl, ConstructorGroup, VarDecl, readEnumDecl, readConstructorGroup, readVarDecl}
+use Rattle.reading.specs.Decl.{EnumDecl, ConstructorGroup, VarDecl, readEnumDecl, readVarDecl}
 use Rattle.reading.specs.Transition.{OutputExpr, Assignment, OnError, Transition, readTopExpr, readOutputExpr, readAssignment, readOnError}
 use Rattle.reading.specs.Formula.{Formula, readFormula}
 use Rattle.reading.specs.Module.{Property, Module, readProperty}
@@ -27,7 +27,7 @@ use Rattle.typing.specs.declared.cause.Typed.{Typed}
 use Rattle.typing.specs.declared.table.Found.{Found}
 use Rattle.findings.specs.Lists.{Placed, placed, each}
 use Rattle.findings.specs.Finding.{Note, note, noted, caused, blamed, typeCause}
-use Rattle.typing.specs.First.{enumName}
+use Rattle.typing.specs.First.{enumName, GroupsAt}
 use Rattle.findings.specs.Mentions.{enumVariants, states}
 use Rattle.findings.specs.Errors.{unknownState, isEmpty, initialNotes, versionNotes, initNotes, opening, guardNotes, setNotes, emitNotes, bodyNotes, own, errorEmitNotes, onErrorNotes, propertyName, repeatNotes, formulaNotes}
 use Rattle.findings.specs.Noting.{Noted, numbered}
@@ -38,9 +38,6 @@ use Rattle.findings.specs.Variants.{Variants}
 -- an entry with its place
 abbrev pub at-place : {A : Type 0} → ℕ → A → Placed A
 at-place i x = record { place = i; item = x }
-
-abbrev pub Groups : List ℕ → ℕ → List ConstructorGroup → Type 0
-Groups s at gs = Reads (listOf maxList readConstructorGroup) s at gs
 
 -- the variables that a table knows are those of the environment
 pub record Known (s vars : List ℕ) (env : Env) : Type 0 where
@@ -106,14 +103,14 @@ module _ (s : List ℕ) (owner : ℕ) (o : List ℕ) (skip n r : ℕ) (o′ : Li
     pub of : (xs : List Assignment) (env : Env) → Reads (listOf maxList readAssignment) s at xs → Agree (envAt s names enums) env → Known s vars env → Notes (each (setNotes env i) (placed 0 xs))
 
   -- an output, with the words that its note has
-  pub record NotesOutput (at outputs : ℕ) (names enums : List ℕ) (site first second : ℕ) : Type 0 where
-    pub of : (x : OutputExpr) (gs : List ConstructorGroup) (env : Env) → Reads readOutputExpr s at x → Groups s outputs gs → Agree (envAt s names enums) env → Notes (blamed (λ c. note site first second c) (validateOutputExpr gs env x))
+  pub record NotesOutput (at : ℕ) (outputs names enums : List ℕ) (site first second : ℕ) : Type 0 where
+    pub of : (x : OutputExpr) (gs : List ConstructorGroup) (env : Env) → Reads readOutputExpr s at x → GroupsAt s outputs gs → Agree (envAt s names enums) env → Notes (blamed (λ c. note site first second c) (validateOutputExpr gs env x))
 
-  pub record NotesEmits (at i outputs : ℕ) (names enums : List ℕ) : Type 0 where
-    pub of : (xs : List OutputExpr) (gs : List ConstructorGroup) (env : Env) → Reads (listOf maxList readOutputExpr) s at xs → Groups s outputs gs → Agree (envAt s names enums) env → Notes (each (emitNotes env gs i) (placed 0 xs))
+  pub record NotesEmits (at i : ℕ) (outputs names enums : List ℕ) : Type 0 where
+    pub of : (xs : List OutputExpr) (gs : List ConstructorGroup) (env : Env) → Reads (listOf maxList readOutputExpr) s at xs → GroupsAt s outputs gs → Agree (envAt s names enums) env → Notes (each (emitNotes env gs i) (placed 0 xs))
 
-  pub record NotesBody (rows : List ℕ) (i outputs : ℕ) (vars names enums : List ℕ) : Type 0 where
-    pub of : (t : Transition) (gs : List ConstructorGroup) (env : Env) → RowAt s rows i t → Groups s outputs gs → Agree (envAt s names enums) env → Known s vars env → Notes (bodyNotes env gs (at-place i t))
+  pub record NotesBody (rows : List ℕ) (i : ℕ) (outputs vars names enums : List ℕ) : Type 0 where
+    pub of : (t : Transition) (gs : List ConstructorGroup) (env : Env) → RowAt s rows i t → GroupsAt s outputs gs → Agree (envAt s names enums) env → Known s vars env → Notes (bodyNotes env gs (at-place i t))
 
   -- sites 6 to 8, by the number of what is wrong with the pattern
   pub record NotesHeads (rows prints : List ℕ) (i : ℕ) (variants : List ℕ) (cause : ℕ) : Type 0 where
@@ -135,11 +132,11 @@ module _ (s : List ℕ) (owner : ℕ) (o : List ℕ) (skip n r : ℕ) (o′ : Li
     pub of : (m : Module) → Scene s places m → Rows s rows (m .transitions) → Prints prints (m .transitions) → count ≡ length (m .transitions) → StatesAt s found (states m) → Agree (envAt s (take k table) enums) (forModule m) → Notes (each (own m) (placed 0 (m .transitions)))
 
   -- sites 16 and 17
-  pub record NotesErrorEmits (at outputs : ℕ) (names enums : List ℕ) : Type 0 where
-    pub of : (xs : List OutputExpr) (m : Module) → Reads (listOf maxList readOutputExpr) s at xs → Groups s outputs (m .outputs) → Agree (envAt s names enums) (forModule m) → Notes (each (errorEmitNotes m) (placed 0 xs))
+  pub record NotesErrorEmits (at : ℕ) (outputs names enums : List ℕ) : Type 0 where
+    pub of : (xs : List OutputExpr) (m : Module) → Reads (listOf maxList readOutputExpr) s at xs → GroupsAt s outputs (m .outputs) → Agree (envAt s names enums) (forModule m) → Notes (each (errorEmitNotes m) (placed 0 xs))
 
-  pub record NotesOnError (at : ℕ) (found : Found) (outputs : ℕ) (names enums : List ℕ) : Type 0 where
-    pub of : (e : Option OnError) (m : Module) → Reads (optional readOnError) s at e → StatesAt s found (states m) → Groups s outputs (m .outputs) → Agree (envAt s names enums) (forModule m) → Notes (onErrorNotes m e)
+  pub record NotesOnError (at : ℕ) (found : Found) (outputs names enums : List ℕ) : Type 0 where
+    pub of : (e : Option OnError) (m : Module) → Reads (optional readOnError) s at e → StatesAt s found (states m) → GroupsAt s outputs (m .outputs) → Agree (envAt s names enums) (forModule m) → Notes (onErrorNotes m e)
 
 -- a table of properties: pairs of the places of a name and of its formula
 pub record ClaimAt (s table : List ℕ) (i : ℕ) (p : Property) : Type 0 where

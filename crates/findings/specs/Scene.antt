@@ -3,7 +3,7 @@ use Prim.Native.Nat.{ℕ, zero, suc, _+_, _*_, _<_, _≤_}
 use mathlib.Core.Path.{_≡_}
 use mathlib.Core.List.{List, [], _∷_, _++_}
 use mathlib.Core.Option.{some}
-use lib.ListN.{length, getD, getElem?}
+use lib.ListN.{length, getD, getElem?, set, take, drop}
 use lib.Seq.{sets}
 use Rattle.reading.specs.Read.{Read, Reader, ok, refused}
 use Rattle.reading.specs.Limits.{maxU32, maxU64, maxList}
@@ -15,7 +15,8 @@ use Rattle.reading.specs.Decl.{readNames, readEnumDecl, readConstructorGroup, r
 use Rattle.reading.specs.Pattern.{readPattern}
 use Rattle.reading.specs.Transition.{Transition, readTopExpr, readOutputExpr, readAssignment, readOnError, readTransition}
 use Rattle.reading.specs.Module.{Module, readProperty, readModule}
-use Rattle.typing.specs.Table.{afterItem, afterHead, pairsAt, Filled}
+use Rattle.typing.specs.Table.{afterItem, afterHead, pairsAt, Past, Filled}
+use Rattle.typing.specs.First.{GroupsAt}
 use Rattle.findings.specs.declared.rows.Listed.{Listed}
 use Rattle.typing.specs.declared.table.Found.{Found}
 use Rattle.typing.specs.declared.table.Found.the-variants.{At, Nothing}
@@ -96,7 +97,23 @@ pub record RowAt (s rows : List ℕ) (i : ℕ) (t : Transition) : Type 0 where
 pub record Rows (s rows : List ℕ) (ts : List Transition) : Type 0 where
   pub at : (i : ℕ) (t : Transition) → getElem? ts i ≡ some t → RowAt s rows i t
 
--- the places of a module's fields, in the order of ir.rs
+-- behind the places of a module's eleven fields: how many words the tables of its groups of events and of outputs take, and the tables
+abbrev pub groupsIn : List ℕ → ℕ → ℕ → List ℕ
+groupsIn places from words = take words (take 510 (drop from places))
+
+abbrev pub eventsIn : List ℕ → List ℕ
+eventsIn places = groupsIn places 13 (getD places 11 0)
+
+abbrev pub outputsIn : List ℕ → List ℕ
+outputsIn places = groupsIn places 523 (getD places 12 0)
+
+unfoldable pub withTable : List ℕ → ℕ → ℕ → List ℕ → List ℕ
+withTable places w from table = set (sets places from table) w (length table)
+
+unfoldable pub withGroups : List ℕ → List ℕ → List ℕ
+withGroups s places = withTable (withTable places 11 13 (pairsAt s (getD places 5 0))) 12 523 (pairsAt s (getD places 6 0))
+
+-- the places of a module's fields, in the order of ir.rs, and its groups
 pub record Scene (s places : List ℕ) (m : Module) : Type 0 where
   pub name-is : Reads readName s (getD places 0 0) (m .name)
   pub version-is : Reads (optional readVersion) s (getD places 1 0) (m .version)
@@ -109,6 +126,8 @@ pub record Scene (s places : List ℕ) (m : Module) : Type 0 where
   pub transitions-are : Reads (listOf maxList readTransition) s (getD places 8 0) (m .transitions)
   pub properties-are : Reads (listOf maxList readProperty) s (getD places 9 0) (m .properties)
   pub assumptions-are : Reads (listOf maxList readProperty) s (getD places 10 0) (m .assumptions)
+  pub event-groups : GroupsAt s (eventsIn places) (m .events)
+  pub output-groups : GroupsAt s (outputsIn places) (m .outputs)
 
 -- the variants of the first enum called State stand at a place; there are none where there is no such enum
 pub data StatesAt (s : List ℕ) : Found → List Name → Type 0 where
@@ -122,6 +141,16 @@ pub record Opened (s : List ℕ) (r : Listed) (places rows : List ℕ) (m : Modu
   pub rows-are : Rows s rows (m .transitions)
   pub count : r .count ≡ length (m .transitions)
   pub end : r .end ≡ n
+
+-- the last three fields and the rows, from the place of the transitions on
+pub record OpensRest (s : List ℕ) (t : ℕ) (places rows : List ℕ) (r : Listed) (places′ rows′ : List ℕ) : Type 0 where
+  pub listed : Listed
+  pub assumptions : ℕ
+  pub filled : RowsFilled s t rows listed rows′
+  pub words : places′ ≡ sets places 8 (t ∷ listed .end ∷ assumptions ∷ [])
+  pub after-properties : Past s (listed .end) assumptions
+  pub after-all : Past s assumptions (r .end)
+  pub count : r .count ≡ listed .count
 
 pub record Opens (s : List ℕ) (at : ℕ) (r : Listed) (places rows : List ℕ) : Type 0 where
   pub of : (m : Module) (n : ℕ) → readModule s at ≡ ok m n → Opened s r places rows m n

@@ -13,15 +13,14 @@ use Rattle.reading.specs.Decl.{ConstructorVariant, ConstructorGroup, readConstr
 use Rattle.reading.specs.Pattern.{Pattern, PatternVariant, readPatternVariant, readPattern}
 use Rattle.reading.specs.Transition.{Transition}
 use Rattle.reading.specs.Skip.{textAt}
-use Rattle.typing.specs.Names.{eqName, member, firstCalled}
+use Rattle.typing.specs.Names.{eqName, member}
 use Rattle.typing.specs.Patterns.{declaredName, patternVariantName}
 use Rattle.typing.specs.Table.{afterHead}
 use Rattle.typing.specs.declared.table.Found.{Found}
 use Rattle.typing.specs.declared.table.Found.the-variants.{At, Nothing}
 use Rattle.findings.specs.Lists.{Placed, placed, any, each}
 use Rattle.findings.specs.Finding.{Note, note, noted}
-use Rattle.typing.specs.First.{groupName}
-use Rattle.findings.specs.Mentions.{groupVariants}
+use Rattle.typing.specs.First.{GroupsAt}
 use Rattle.findings.specs.Warnings.{deadIn, dead}
 use Rattle.findings.specs.Noting.{Noted}
 use Rattle.findings.specs.Scene.{Reads, field, Rows}
@@ -98,15 +97,6 @@ pub record HasVariant (s : List ℕ) (found : Found) (w : Name) (r : Bool) : Typ
 
 pub record IsUsed (s : List ℕ) (found : Found) (table : List ℕ) (u : Uses) (w : Name) (r : Bool) : Type 0 where
   pub of : (vs ns : List Name) → VariantsAt s found vs → NamesAt s table (u .named) ns → r ≡ usedBy (u .bare) vs ns w
-
--- a table of groups: pairs of the places of a name and of its variants
-pub record GroupsAt (s groups : List ℕ) (gs : List ConstructorGroup) : Type 0 where
-  pub room : length groups ≡ 2 * length gs
-  pub name-is : (k : ℕ) (x : ConstructorGroup) → getElem? gs k ≡ some x → textAt s (getD groups (2 * k) 0) ≡ x .name
-  pub variants-are : (k : ℕ) (x : ConstructorGroup) → getElem? gs k ≡ some x → Reads (listOf maxList readConstructorVariant) s (getD groups (2 * k + 1) 0) (x .variants)
-
-pub record FirstVariants (s groups : List ℕ) (w : Name) (r : Found) : Type 0 where
-  pub of : (gs : List ConstructorGroup) → GroupsAt s groups gs → VariantsAt s r (groupVariants (firstCalled groupName w gs))
 
 -- what is known of a group's uses: the variants of the first group of its name, and the names that patterns give
 pub record GroupKnown (s : List ℕ) (found : Found) (table : List ℕ) (u : Uses) : Type 0 where

@@ -10,6 +10,7 @@ use Rattle.reading.specs.Combine.{optional}
 use Rattle.reading.specs.Decl.{ConstructorGroup}
 use Rattle.reading.specs.Transition.{Transition, readTopExpr}
 use Rattle.reading.specs.Module.{Module}
+use Rattle.typing.specs.First.{GroupsAt}
 use Rattle.typing.specs.declared.table.Found.{Found}
 use Rattle.findings.specs.Lists.{placed, each}
 use Rattle.findings.specs.Mentions.{allTouched}
@@ -17,7 +18,6 @@ use Rattle.findings.specs.Warnings.{unreachable, dead, unused, impossibl
 use Rattle.findings.specs.Noting.{Noted}
 use Rattle.findings.specs.Scene.{Reads, Rows, Scene, StatesAt}
 use Rattle.findings.specs.Prints.{Prints}
-use Rattle.findings.specs.Promises.{Groups}
 
 -- of transition i: its guard
 pub record NotesGuardImpossible (s : List ℕ) (owner : ℕ) (o : List ℕ) (skip n r : ℕ) (o′ : List ℕ) (at i : ℕ) : Type 0 where
@@ -29,8 +29,8 @@ module _ (s : List ℕ) (owner : ℕ) (o : List ℕ) (skip n r : ℕ) (o′ : Li
     pub of : (vs : List Name) (w : Option Name) (ts : List Transition) → StatesAt s found vs → Reads (optional readName) s at w → Rows s rows ts → Prints prints ts → count ≡ length ts → Noted owner o skip n (unreachable vs w ts) r o′
 
   -- site 22
-  pub record NotesDead (events : ℕ) : Type 0 where
-    pub of : (gs : List ConstructorGroup) (ts : List Transition) → Groups s events gs → Rows s rows ts → count ≡ length ts → Noted owner o skip n (dead gs ts) r o′
+  pub record NotesDead (events : List ℕ) : Type 0 where
+    pub of : (gs : List ConstructorGroup) (ts : List Transition) → GroupsAt s events gs → Rows s rows ts → count ≡ length ts → Noted owner o skip n (dead gs ts) r o′
 
   -- site 23
   pub record NotesUnused (places : List ℕ) : Type 0 where

@@ -1,5 +1,4 @@
 // Events that no transition uses: site 22.
-use crate::rows::fill_pairs;
 use crate::sheet::emit_if;
 use crate::uses::Uses;
 use crate::uses::fill_uses;
@@ -11,29 +10,13 @@ use reading::text_at;
 use typing::Found;
 use typing::after;
 use typing::after_tag;
-use typing::same;
+use typing::first_variants;
 ghost use mathlib.Core.Path.{_≡_};
 ghost use Prim.Native.Nat.{_+_, _*_, _<_, _≤_, _^_};
 ghost use lib.ListN.{length};
 ghost use Rattle.findings.specs.Classes.{Tabled};
-ghost use Rattle.findings.specs.Uses.{GroupPrint, FirstVariants, NotesVariant, NotesVariants, NotesGroup, NotesGroups};
+ghost use Rattle.findings.specs.Uses.{GroupPrint, NotesVariant, NotesVariants, NotesGroup, NotesGroups};
 ghost use Rattle.findings.specs.WarningPromises.{NotesDead};
-
-// The variants of the first group of a name, by a table of the groups.
-pub(crate) fn first_variants<'a>(doc: &'a [u8], groups: &'a [usize], name: &'a [u8]) -> Found
-    ensures { λ r. ⌜ FirstVariants (now (doc .entry)) (now (groups .entry)) (now (name .entry)) r ⌝ }
-{
-    let count = groups.len() / 2;
-    let mut k: usize = 0;
-    while k < count {
-        let key = groups[2 * k];
-        if same(text_at(doc, key), name) {
-            return Found::At(groups[2 * k + 1]);
-        }
-        k += 1;
-    }
-    Found::Nothing
-}
 
 // The variant at a place, number j of group g.
 pub(crate) fn note_variant<'a>(
@@ -162,10 +145,10 @@ pub(crate) fn note_groups<'a>(
     m
 }
 
-// Site 22 of the groups of events at a place, by the rows of the transitions.
+// Site 22 of a table of the groups of events, by the rows of the transitions.
 pub(crate) fn note_dead<'a>(
     doc: &'a [u8],
-    events: usize,
+    events: &'a [usize],
     rows: &'a [usize],
     count: u8,
     out: &mut [u32],
@@ -173,19 +156,18 @@ pub(crate) fn note_dead<'a>(
     n: usize,
     owner: u32,
 ) -> usize
+    requires { ⌜ length (now events) ≤ 510 ⌝ }
     requires { ⌜ n + 65025 ≤ 2 ^ 40 ⌝ }
-    ensures { λ r. ⌜ NotesDead (now (doc .entry)) owner (now (out .entry)) skip n r (now (out .exit)) (now (rows .entry)) count events ⌝ }
+    ensures { λ r. ⌜ NotesDead (now (doc .entry)) owner (now (out .entry)) skip n r (now (out .exit)) (now (rows .entry)) count (now (events .entry)) ⌝ }
     ensures { λ r. ⌜ r ≤ n + 65025 ⌝ }
 {
-    let mut table = [0usize; 512];
     let mut uses = [0usize; 256];
-    let w = fill_pairs(doc, events, &mut table);
-    let half = w / 2;
+    let half = events.len() / 2;
     let many = half as u8;
     let marks = print_groups(doc, rows, count);
     note_groups(
         doc,
-        &table[0..w],
+        events,
         rows,
         &marks,
         count,

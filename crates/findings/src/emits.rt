@@ -6,12 +6,12 @@ use typing::after;
 ghost use Prim.Native.Nat.{_+_, _≤_, _^_};
 ghost use Rattle.findings.specs.Promises.{NotesEmits};
 
-// Site 13, of each output of the list at a place, by the groups of outputs at another.
+// Site 13, of each output of the list at a place, by a table of the groups of outputs.
 pub(crate) fn note_emits<'a>(
     doc: &'a [u8],
     at: usize,
     i: u8,
-    outputs: usize,
+    outputs: &'a [usize],
     names: &'a [usize],
     enums: &'a [usize],
     out: &mut [u32],
@@ -20,7 +20,7 @@ pub(crate) fn note_emits<'a>(
     owner: u32,
 ) -> usize
     requires { ⌜ n + 255 ≤ 2 ^ 40 ⌝ }
-    ensures { λ r. ⌜ NotesEmits (now (doc .entry)) owner (now (out .entry)) skip n r (now (out .exit)) at i outputs (now (names .entry)) (now (enums .entry)) ⌝ }
+    ensures { λ r. ⌜ NotesEmits (now (doc .entry)) owner (now (out .entry)) skip n r (now (out .exit)) at i (now (outputs .entry)) (now (names .entry)) (now (enums .entry)) ⌝ }
     ensures { λ r. ⌜ r ≤ n + 255 ⌝ }
 {
     let c = Cursor { at };

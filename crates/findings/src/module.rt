@@ -5,6 +5,7 @@ use crate::on_error::note_on_error;
 use crate::rows::Listed;
 use crate::rows::fill_row;
 use crate::rows::fill_rows;
+use crate::rows::outputs_of;
 use crate::rows::word;
 use typing::Found;
 use typing::after;
@@ -13,17 +14,37 @@ use typing::store;
 ghost use mathlib.Core.Path.{_≡_};
 ghost use Prim.Native.Nat.{_+_, _≤_, _^_};
 ghost use lib.ListN.{length};
-ghost use Rattle.findings.specs.Scene.{Opens};
+ghost use Rattle.findings.specs.Scene.{withTable, withGroups, OpensRest, Opens};
+ghost use Rattle.typing.specs.Table.{pairsAt};
 ghost use Rattle.findings.specs.Promises.{ClaimsSet};
 ghost use Rattle.findings.specs.ModulePromises.{Names, NotesClosing};
 
-// Fills the tables of the module at a place: the places of its fields, and of its transitions' fields.
-pub fn open_module(doc: &[u8], at: usize, places: &mut [usize], rows: &mut [usize]) -> Listed
-    requires { ⌜ 11 ≤ length (now places) ⌝ }
-    requires { ⌜ 2040 ≤ length (now rows) ⌝ }
-    ensures { λ r. ⌜ Opens (now (doc .entry)) at r (now (places .exit)) (now (rows .exit)) ⌝ }
+// Fills the table of the groups at a place from a word on; how many words it takes goes into another.
+fn fill_group(doc: &[u8], at: usize, places: &mut [usize], w: usize, from: usize)
+    requires { ⌜ from + 510 ≤ length (now places) ⌝ }
+    ensures { λ _. ⌜ now (places .exit) ≡ withTable (now (places .entry)) w from (pairsAt (now (doc .entry)) at) ⌝ }
 {
-    let transitions = fill_row(doc, at, 8, places, 0);
+    let end = from + 510;
+    let many = fill_table(doc, at, &mut places[from..end]);
+    store(places, w, many);
+}
+
+// The tables of groups behind the places of a module's fields.
+fn fill_groups(doc: &[u8], places: &mut [usize])
+    requires { ⌜ 1033 ≤ length (now places) ⌝ }
+    ensures { λ _. ⌜ now (places .exit) ≡ withGroups (now (doc .entry)) (now (places .entry)) ⌝ }
+{
+    let events = word(places, 5);
+    let outputs = word(places, 6);
+    fill_group(doc, events, places, 11, 13);
+    fill_group(doc, outputs, places, 12, 523);
+}
+
+// The places of a module's last three fields, the first of which is known, and of its transitions' fields; how many transitions there are,
+// and the module's end.
+fn open_rest(doc: &[u8], transitions: usize, places: &mut [usize], rows: &mut [usize]) -> Listed
+    ensures { λ r. ⌜ OpensRest (now (doc .entry)) transitions (now (places .entry)) (now (rows .entry)) r (now (places .exit)) (now (rows .exit)) ⌝ }
+{
     store(places, 8, transitions);
     let listed = fill_rows(doc, transitions, rows);
     store(places, 9, listed.end);
@@ -34,6 +55,18 @@ pub fn open_module(doc: &[u8], at: usize, places: &mut [usize], rows: &mut [usiz
         count: listed.count,
         end,
     }
+}
+
+// Fills the tables of the module at a place: the places of its fields with its groups, and the places of its transitions' fields.
+pub fn open_module(doc: &[u8], at: usize, places: &mut [usize], rows: &mut [usize]) -> Listed
+    requires { ⌜ 1033 ≤ length (now places) ⌝ }
+    requires { ⌜ 2040 ≤ length (now rows) ⌝ }
+    ensures { λ r. ⌜ Opens (now (doc .entry)) at r (now (places .exit)) (now (rows .exit)) ⌝ }
+{
+    let transitions = fill_row(doc, at, 8, places, 0);
+    let listed = open_rest(doc, transitions, places, rows);
+    fill_groups(doc, places);
+    listed
 }
 
 // Fills the table of the properties and then the assumptions at two places; how many words it takes.
@@ -103,7 +136,7 @@ pub(crate) fn note_closing<'a>(
     ensures { λ r. ⌜ r ≤ n + 1786 ⌝ }
 {
     let at = word(places, 2);
-    let outputs = word(places, 6);
+    let outputs = outputs_of(places);
     let a = note_on_error(doc, at, found, outputs, names, enums, out, skip, n, owner);
     let b = note_repeats(doc, claims, out, skip, a, owner);
     note_formulas(doc, claims, names, enums, out, skip, b, owner)

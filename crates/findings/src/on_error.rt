@@ -10,11 +10,11 @@ use typing::null_at;
 ghost use Prim.Native.Nat.{_+_, _≤_, _^_};
 ghost use Rattle.findings.specs.Promises.{NotesErrorEmits, NotesOnError};
 
-// The list of outputs at a place, by the groups of outputs at another.
+// The list of outputs at a place, by a table of the groups of outputs.
 pub(crate) fn note_error_emits<'a>(
     doc: &'a [u8],
     at: usize,
-    outputs: usize,
+    outputs: &'a [usize],
     names: &'a [usize],
     enums: &'a [usize],
     out: &mut [u32],
@@ -23,7 +23,7 @@ pub(crate) fn note_error_emits<'a>(
     owner: u32,
 ) -> usize
     requires { ⌜ n + 255 ≤ 2 ^ 40 ⌝ }
-    ensures { λ r. ⌜ NotesErrorEmits (now (doc .entry)) owner (now (out .entry)) skip n r (now (out .exit)) at outputs (now (names .entry)) (now (enums .entry)) ⌝ }
+    ensures { λ r. ⌜ NotesErrorEmits (now (doc .entry)) owner (now (out .entry)) skip n r (now (out .exit)) at (now (outputs .entry)) (now (names .entry)) (now (enums .entry)) ⌝ }
     ensures { λ r. ⌜ r ≤ n + 255 ⌝ }
 {
     let c = Cursor { at };
@@ -60,7 +60,7 @@ pub(crate) fn note_on_error<'a>(
     doc: &'a [u8],
     at: usize,
     found: Found,
-    outputs: usize,
+    outputs: &'a [usize],
     names: &'a [usize],
     enums: &'a [usize],
     out: &mut [u32],
@@ -69,7 +69,7 @@ pub(crate) fn note_on_error<'a>(
     owner: u32,
 ) -> usize
     requires { ⌜ n + 256 ≤ 2 ^ 40 ⌝ }
-    ensures { λ r. ⌜ NotesOnError (now (doc .entry)) owner (now (out .entry)) skip n r (now (out .exit)) at found outputs (now (names .entry)) (now (enums .entry)) ⌝ }
+    ensures { λ r. ⌜ NotesOnError (now (doc .entry)) owner (now (out .entry)) skip n r (now (out .exit)) at found (now (outputs .entry)) (now (names .entry)) (now (enums .entry)) ⌝ }
     ensures { λ r. ⌜ r ≤ n + 256 ⌝ }
 {
     if null_at(doc, at) {

@@ -5,11 +5,11 @@ use typing::validate_output_expr;
 ghost use Prim.Native.Nat.{_+_, _≤_, _^_};
 ghost use Rattle.findings.specs.Promises.{NotesOutput};
 
-// What is wrong with the output at a place, by the groups of outputs at another.
+// What is wrong with the output at a place, by a table of the groups of outputs.
 pub(crate) fn note_output<'a>(
     doc: &'a [u8],
     at: usize,
-    outputs: usize,
+    outputs: &'a [usize],
     names: &'a [usize],
     enums: &'a [usize],
     out: &mut [u32],
@@ -21,7 +21,7 @@ pub(crate) fn note_output<'a>(
     second: u32,
 ) -> usize
     requires { ⌜ n + 1 ≤ 2 ^ 40 ⌝ }
-    ensures { λ r. ⌜ NotesOutput (now (doc .entry)) owner (now (out .entry)) skip n r (now (out .exit)) at outputs (now (names .entry)) (now (enums .entry)) site first second ⌝ }
+    ensures { λ r. ⌜ NotesOutput (now (doc .entry)) owner (now (out .entry)) skip n r (now (out .exit)) at (now (outputs .entry)) (now (names .entry)) (now (enums .entry)) site first second ⌝ }
     ensures { λ r. ⌜ r ≤ n + 1 ⌝ }
 {
     let b = validate_output_expr(doc, at, outputs, names, enums);

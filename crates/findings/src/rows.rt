@@ -8,9 +8,9 @@ use typing::store;
 ghost use mathlib.Core.Path.{_≡_};
 ghost use mathlib.Core.List.{[], _∷_};
 ghost use Prim.Native.Nat.{_<_, _≤_};
-ghost use lib.ListN.{length, getD};
+ghost use lib.ListN.{length, getD, take, drop};
 ghost use lib.Seq.{sets};
-ghost use Rattle.findings.specs.Scene.{rowFrom, endFrom, rowAt, rowEnd, field, PastBare, PairsFilled, RowsFilled};
+ghost use Rattle.findings.specs.Scene.{rowFrom, endFrom, rowAt, rowEnd, field, groupsIn, eventsIn, outputsIn, PastBare, PairsFilled, RowsFilled};
 ghost use Rattle.typing.specs.Table.{Past};
 
 // A word of a table; 0 past its end.
@@ -21,6 +21,50 @@ pub fn word(table: &[usize], j: usize) -> usize
         return table[j];
     }
     0
+}
+
+// At most so many words of a table, from its start on.
+fn front(table: &[usize], words: usize) -> &[usize]
+    ensures { λ r. ⌜ now r ≡ take words (now (table .entry)) ⌝ }
+{
+    if table.len() <= words {
+        return table;
+    }
+    &table[0..words]
+}
+
+// The words of a table from one on.
+fn back(table: &[usize], from: usize) -> &[usize]
+    ensures { λ r. ⌜ now r ≡ drop from (now (table .entry)) ⌝ }
+{
+    let end = table.len();
+    if end <= from {
+        return &table[end..end];
+    }
+    &table[from..end]
+}
+
+// The table of groups that takes so many of the words from one on, and at most 510.
+fn groups_in(places: &[usize], from: usize, words: usize) -> &[usize]
+    ensures { λ r. ⌜ now r ≡ groupsIn (now (places .entry)) from words ⌝ }
+    ensures { λ r. ⌜ length (now r) ≤ 510 ⌝ }
+{
+    front(front(back(places, from), 510), words)
+}
+
+// A module's groups of events.
+pub fn events_of(places: &[usize]) -> &[usize]
+    ensures { λ r. ⌜ now r ≡ eventsIn (now (places .entry)) ⌝ }
+    ensures { λ r. ⌜ length (now r) ≤ 510 ⌝ }
+{
+    groups_in(places, 13, word(places, 11))
+}
+
+// Its groups of outputs.
+pub fn outputs_of(places: &[usize]) -> &[usize]
+    ensures { λ r. ⌜ now r ≡ outputsIn (now (places .entry)) ⌝ }
+{
+    groups_in(places, 523, word(places, 12))
 }
 
 // The place of a field of transition i.

@@ -6,7 +6,7 @@ use reading::text_at;
 use typing::Found;
 use typing::after;
 use typing::after_head;
-use typing::first_record;
+use typing::first_enum;
 use typing::has_name;
 ghost use Prim.Native.Nat.{_+_, _≤_, _^_};
 ghost use Rattle.findings.specs.Promises.{FirstStates, IsState, NoStates, NotesState};
@@ -15,7 +15,7 @@ ghost use Rattle.findings.specs.Promises.{FirstStates, IsState, NoStates
 pub(crate) fn first_states(doc: &[u8], at: usize) -> Found
     ensures { λ r. ⌜ FirstStates (now (doc .entry)) at r ⌝ }
 {
-    let f = first_record(doc, at, b"State");
+    let f = first_enum(doc, at, b"State");
     let Found::At(k) = f else {
         return Found::Nothing;
     };

@@ -2,8 +2,9 @@
 use crate::emits::note_emits;
 use crate::guard::note_guard;
 use crate::prints::print_word;
+use crate::rows::events_of;
 use crate::rows::field;
-use crate::rows::word;
+use crate::rows::outputs_of;
 use crate::sets::note_sets;
 use crate::sheet::emit_cause;
 use crate::variants::fill_states;
@@ -14,9 +15,9 @@ use typing::blame_number;
 use typing::validate_event_pattern;
 ghost use mathlib.Core.Path.{_≡_};
 ghost use Prim.Native.Nat.{_+_, _*_, _≤_, _^_};
-ghost use lib.ListN.{length, getD, take};
+ghost use lib.ListN.{length, take};
 ghost use Rattle.typing.specs.Blames.{Spares, JudgesPattern};
-ghost use Rattle.findings.specs.Scene.{field};
+ghost use Rattle.findings.specs.Scene.{field, eventsIn};
 ghost use Rattle.findings.specs.Promises.{NotesBody, NotesHeads, NotesJudged, NotesTransition, NotesTransitions, NotesMoves};
 
 // Sites 9 to 13, of transition i: its guard, its assignments, then its outputs.
@@ -24,7 +25,7 @@ pub(crate) fn note_body<'a>(
     doc: &'a [u8],
     rows: &'a [usize],
     i: u8,
-    outputs: usize,
+    outputs: &'a [usize],
     vars: &'a [usize],
     names: &'a [usize],
     enums: &'a [usize],
@@ -34,7 +35,7 @@ pub(crate) fn note_body<'a>(
     owner: u32,
 ) -> usize
     requires { ⌜ n + 511 ≤ 2 ^ 40 ⌝ }
-    ensures { λ r. ⌜ NotesBody (now (doc .entry)) owner (now (out .entry)) skip n r (now (out .exit)) (now (rows .entry)) i outputs (now (vars .entry)) (now (names .entry)) (now (enums .entry)) ⌝ }
+    ensures { λ r. ⌜ NotesBody (now (doc .entry)) owner (now (out .entry)) skip n r (now (out .exit)) (now (rows .entry)) i (now (outputs .entry)) (now (vars .entry)) (now (names .entry)) (now (enums .entry)) ⌝ }
     ensures { λ r. ⌜ r ≤ n + 511 ⌝ }
 {
     let guard = field(rows, i, 3);
@@ -122,7 +123,7 @@ fn note_judged<'a>(
         n,
         owner,
     );
-    let outputs = word(places, 6);
+    let outputs = outputs_of(places);
     let vars = &names[0..k];
     note_body(
         doc,
@@ -139,8 +140,8 @@ fn note_judged<'a>(
     )
 }
 
-// The pattern of transition i, by the module's groups of events.
-fn judge_pattern<'a>(
+// The pattern of transition i, by the module's groups of events; its bindings go into the table from word k on.
+pub fn judge_pattern<'a>(
     doc: &'a [u8],
     places: &'a [usize],
     rows: &'a [usize],
@@ -149,13 +150,12 @@ fn judge_pattern<'a>(
     k: usize,
 ) -> Bindings
     requires { ⌜ k + 510 ≤ length (now table) ⌝ }
-    ensures { λ r. ⌜ JudgesPattern (now (doc .entry)) (field (now (rows .entry)) i 2) (getD (now (places .entry)) 5 0) (now (table .entry)) k r (now (table .exit)) ⌝ }
+    ensures { λ r. ⌜ JudgesPattern (now (doc .entry)) (field (now (rows .entry)) i 2) (eventsIn (now (places .entry))) (now (table .entry)) k r (now (table .exit)) ⌝ }
     ensures { λ r. ⌜ Spares (now (table .entry)) k r (now (table .exit)) ⌝ }
     ensures { λ r. ⌜ k + r .words ≤ length (now (table .entry)) ⌝ }
 {
     let at = field(rows, i, 2);
-    let events = word(places, 5);
-    validate_event_pattern(doc, at, events, table, k)
+    validate_event_pattern(doc, at, events_of(places), table, k)
 }
 
 // Sites 6 to 13, of transition i. The table has two words for each of the module's variables; those of the pattern's bindings go after

@@ -3,6 +3,7 @@ use crate::dead::note_dead;
 use crate::impossible::note_impossible;
 use crate::pairs::note_pairs;
 use crate::reach::note_unreachable;
+use crate::rows::events_of;
 use crate::rows::word;
 use crate::unused::note_unused;
 use typing::Found;
@@ -41,8 +42,7 @@ fn note_doubts<'a>(
         n,
         owner,
     );
-    let events = word(places, 5);
-    let b = note_dead(doc, events, rows, count, out, skip, a, owner);
+    let b = note_dead(doc, events_of(places), rows, count, out, skip, a, owner);
     note_unused(doc, places, rows, count, out, skip, b, owner)
 }
 

@@ -160,7 +160,7 @@ fn open_printed(
     rows: &mut [usize],
     prints: &mut [u32],
 ) -> Listed
-    requires { ⌜ 11 ≤ length (now places) ⌝ }
+    requires { ⌜ 1033 ≤ length (now places) ⌝ }
     requires { ⌜ 2040 ≤ length (now rows) ⌝ }
     requires { ⌜ 768 ≤ length (now prints) ⌝ }
     ensures { λ r. ⌜ Opens (now (doc .entry)) at r (now (places .exit)) (now (rows .exit)) ⌝ }
@@ -284,7 +284,7 @@ fn walk_module(
     leave: usize,
     k: usize,
 ) -> Passed
-    requires { ⌜ 11 ≤ length (now places) ⌝ }
+    requires { ⌜ 1033 ≤ length (now places) ⌝ }
     requires { ⌜ 2040 ≤ length (now rows) ⌝ }
     requires { ⌜ 768 ≤ length (now prints) ⌝ }
     requires { ⌜ 1020 ≤ length (now table) ⌝ }
@@ -338,7 +338,7 @@ fn walk_modules(
     leave: usize,
     k: usize,
 ) -> Totals
-    requires { ⌜ 11 ≤ length (now places) ⌝ }
+    requires { ⌜ 1033 ≤ length (now places) ⌝ }
     requires { ⌜ 2040 ≤ length (now rows) ⌝ }
     requires { ⌜ 768 ≤ length (now prints) ⌝ }
     requires { ⌜ 1020 ≤ length (now table) ⌝ }
@@ -404,7 +404,7 @@ pub(crate) fn walk_all(
     ensures { λ r. ⌜ r .errors ≤ n + 532733824 ⌝ }
     ensures { λ r. ⌜ r .warnings ≤ k + 531656640 ⌝ }
 {
-    let mut places = [0usize; 11];
+    let mut places = [0usize; 1033];
     let mut rows = [0usize; 2040];
     let mut prints = [0u32; 768];
     let mut table = [0usize; 1020];

@@ -247,7 +247,7 @@ fn print_module<'a>(
     requires { ⌜ length (now doc) ≤ 0xffff ⌝ }
     requires { ⌜ all ≤ 0xffff ⌝ }
     requires { ⌜ k ≤ 0xffff ⌝ }
-    requires { ⌜ 11 ≤ length (now places) ⌝ }
+    requires { ⌜ 1033 ≤ length (now places) ⌝ }
     requires { ⌜ 2040 ≤ length (now rows) ⌝ }
     requires { ⌜ 1020 ≤ length (now table) ⌝ }
     requires { ⌜ 510 ≤ length (now enums) ⌝ }
@@ -283,7 +283,7 @@ fn print_all<'a>(doc: &'a [u8], words: &'a [u32], errors: usize, all: usize)
     requires { ⌜ length (now doc) ≤ 0xffff ⌝ }
     requires { ⌜ all ≤ 0xffff ⌝ }
 {
-    let mut places = [0usize; 11];
+    let mut places = [0usize; 1033];
     let mut rows = [0usize; 2040];
     let mut table = [0usize; 1020];
     let mut enums = [0usize; 510];

@@ -71,7 +71,7 @@ pub(crate) fn say_opened(
     i: usize,
     j: usize,
 ) -> Said
-    requires { ⌜ 11 ≤ length (now places) ⌝ }
+    requires { ⌜ 1033 ≤ length (now places) ⌝ }
     requires { ⌜ 2040 ≤ length (now rows) ⌝ }
     requires { ⌜ 1020 ≤ length (now table) ⌝ }
     requires { ⌜ 510 ≤ length (now enums) ⌝ }
@@ -99,7 +99,7 @@ pub(crate) fn say_opened(
 pub(crate) fn say_in(doc: &[u8], at: usize, site: u32, i: usize, j: usize) -> Said
     ensures { λ r. ⌜ SaysIn (now (doc .entry)) at site i j r ⌝ }
 {
-    let mut places = [0usize; 11];
+    let mut places = [0usize; 1033];
     let mut rows = [0usize; 2040];
     let mut table = [0usize; 1020];
     let mut enums = [0usize; 510];

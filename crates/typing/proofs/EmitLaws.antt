@@ -14,7 +14,7 @@ use Rattle.reading.specs.Item.{readCount}
 use Rattle.reading.specs.Text.{Name, readName}
 use Rattle.reading.specs.Expr.{Expr}
 use Rattle.reading.specs.Combine.{listOf, optional}
-use Rattle.reading.specs.Decl.{FieldDecl, ConstructorVariant, ConstructorGroup, readFieldDecl, readConstructorVariant, readConstructorGroup}
+use Rattle.reading.specs.Decl.{FieldDecl, ConstructorVariant, ConstructorGroup, readFieldDecl, readConstructorVariant}
 use Rattle.reading.specs.Transition.{OutputExpr, readTopExpr}
 use Rattle.reading.specs.Skip.{textAt}
 use Rattle.reading.proofs.Rules.{no}
@@ -34,7 +34,7 @@ use Rattle.typing.specs.Outputs.{fieldsOf, argCause, judgeArgs, variantN
 use Rattle.typing.specs.Means.{causeOf, unfitOf, withinOf, blameOf}
 use Rattle.typing.specs.Table.{afterItem, afterHead, afterTag, Past}
 use Rattle.typing.specs.Accepts.{nameFound}
-use Rattle.typing.specs.First.{groupName, First}
+use Rattle.typing.specs.First.{groupName, First, FirstVariants}
 use Rattle.typing.specs.Typed.{Types}
 use Rattle.typing.specs.Arguments.{AcceptsTyped}
 use Rattle.typing.specs.Entries.{opened, Entered, FieldsAt}
@@ -57,8 +57,9 @@ use Rattle.typing.specs.declared.table.Found.the-variants.{At, Nothing}
 use Rattle.typing.proofs.EnvLaws.{entry, after-is, fields-head}
 use Rattle.typing.proofs.TypeLaws.{is-typed, is-failed}
 use Rattle.typing.proofs.EntryLaws.{entered, Next, none-left, next, entered-at}
-use Rattle.typing.proofs.PartLaws.{past-at, option-null, option-there, field-text, field-type, field-ends, group-variants}
+use Rattle.typing.proofs.PartLaws.{past-at, option-null, option-there, field-text, field-type, field-ends}
 use Rattle.typing.proofs.FirstLaws.{found-no, found-yes, variant-text}
+use Rattle.typing.proofs.GroupLaws.{group-no, group-yes}
 
 -- an argument with its field's name and type
 module _ (s : List ℕ) (t : Typed) (name ty : ℕ) {f : Fit} (g : AcceptsTyped s t ty f) where
@@ -206,45 +207,45 @@ module _ (env : Env) (s : List ℕ) (group args name variants : ℕ) {f : Found}
   variant-known r q g = record { of = λ o n vs m i j k. let x = found-yes (h .of vs m k) q in rw (sym t, x .3) (rw (sym t) at (g .of o n (x .0) (x .1) j (x .2))) }
 
 -- by the declared group
-module _ (env : Env) (s : List ℕ) (group decl : ℕ) {variant args variants : ℕ} {f : Found} (a : Past s group variant) (b : Past s variant args) (c : Past s (afterHead s decl) variants) (e : NamesVariant s variant variants f) where
+module _ (env : Env) (s : List ℕ) (group variants : ℕ) {variant args : ℕ} {f : Found} (a : Past s group variant) (b : Past s variant args) (e : NamesVariant s variant variants f) where
   variant-place : (o : OutputExpr) (k : ℕ) → readName s group ≡ ok (o .group) k → variant ≡ k
   variant-place o k i = a .is ∙ after-is name-laws s (a .each) group (o .group) k i
 
-  name-was : (o : OutputExpr) (k l : ℕ) (g : ConstructorGroup) (m : ℕ) → readName s group ≡ ok (o .group) k → optional readName s k ≡ ok (o .variant) l → readConstructorGroup s decl ≡ ok g m → nameFound s f ≡ variantName (o .variant) (g .variants)
-  name-was o k l g m i j u = e .of (o .variant) l (g .variants) m (ap (optional readName s) (variant-place o k i) ∙ j) (group-variants s decl g m u c)
+  name-was : (o : OutputExpr) (k l : ℕ) (g : ConstructorGroup) (m : ℕ) → readName s group ≡ ok (o .group) k → optional readName s k ≡ ok (o .variant) l → listOf maxList readConstructorVariant s variants ≡ ok (g .variants) m → nameFound s f ≡ variantName (o .variant) (g .variants)
+  name-was o k l g m i j u = e .of (o .variant) l (g .variants) m (ap (optional readName s) (variant-place o k i) ∙ j) u
 
-  pub output-bare : f ≡ Nothing → JudgesGroup env s group decl (blames.Found Alone (BareOutput group))
+  pub output-bare : f ≡ Nothing → JudgesGroup env s group variants (blames.Found Alone (BareOutput group))
   unfolding judgeOutput judgeOutputName nameFound blame blameOf withinOf causeOf
   output-bare q = record { of = λ o k l n g m i j u v. rw (sym (name-was o k l g m i j v) ∙ ap (nameFound s) q, name-text s group (o .group) k i) }
 
-  pub output-named : {name : ℕ} (r : Blame) → f ≡ At name → JudgesName env s group args name variants r → JudgesGroup env s group decl r
+  pub output-named : {name : ℕ} (r : Blame) → f ≡ At name → JudgesName env s group args name variants r → JudgesGroup env s group variants r
   unfolding judgeOutput judgeOutputName nameFound
   output-named r q w = record {
     of = λ o k l n g m i j u v.
         let p : args ≡ l = b .is ∙ ap (afterItem s) (variant-place o k i) ∙ after-is (option-laws name-laws name-solid) s (b .each) k (o .variant) l j in
         rw (sym (name-was o k l g m i j v) ∙ ap (nameFound s) q)
-        (w .of o n (g .variants) m (name-text s group (o .group) k i) (ap (listOf maxList readTopExpr s) p ∙ u) (group-variants s decl g m v c));
+        (w .of o n (g .variants) m (name-text s group (o .group) k i) (ap (listOf maxList readTopExpr s) p ∙ u) v);
   }
 
 -- by the groups
-module _ (env : Env) (s : List ℕ) (at outputs : ℕ) {group : ℕ} {w : Name} {f : Found} (h : group ≡ afterHead s at) (t : w ≡ textAt s group) (e : First readConstructorGroup groupName s outputs w f) where
+module _ (env : Env) (s : List ℕ) (at : ℕ) (outputs : List ℕ) {group : ℕ} {w : Name} {f : Found} (h : group ≡ afterHead s at) (t : w ≡ textAt s group) (e : FirstVariants s outputs w f) where
   pub output-unknown : f ≡ Nothing → JudgesOutput env s at outputs (blames.Found Alone (UnknownOutputGroup group))
   unfolding validateOutputExpr judgeOutput blame blameOf withinOf causeOf
   output-unknown q = record {
-    of = λ gs i o j u v.
+    of = λ gs o j u v.
         let x = output-expr-at s at o j v in
         let p : w ≡ o .group = t ∙ ap (textAt s) (h ∙ fields-head 3 s at tt (x .group) (x .opens)) ∙ name-text s (x .group) (o .group) (x .variant) (x .group-is) in
-        rw (sym p, found-no (e .of gs i u) q, sym t);
+        rw (sym p, group-no (e .of gs u) q, sym t);
   }
 
-  pub output-known : {decl : ℕ} (r : Blame) → f ≡ At decl → JudgesGroup env s group decl r → JudgesOutput env s at outputs r
+  pub output-known : {variants : ℕ} (r : Blame) → f ≡ At variants → JudgesGroup env s group variants r → JudgesOutput env s at outputs r
   unfolding validateOutputExpr
   output-known r q g = record {
-    of = λ gs i o j u v.
+    of = λ gs o j u v.
         let x = output-expr-at s at o j v in
         let z : group ≡ x .group = h ∙ fields-head 3 s at tt (x .group) (x .opens) in
         let p : w ≡ o .group = t ∙ ap (textAt s) z ∙ name-text s (x .group) (o .group) (x .variant) (x .group-is) in
-        let y = found-yes (e .of gs i u) q in
+        let y = group-yes (e .of gs u) q in
         g .of o (x .variant) (x .args) j (y .0) (y .1) (ap (readName s) z ∙ x .group-is) (x .variant-is) (x .args-is) (y .2)
         ∙ ap (judgeOutput env o) (sym (y .3) ∙ ap (λ (n : Name). firstCalled groupName n gs) p);
   }

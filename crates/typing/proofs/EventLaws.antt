@@ -12,7 +12,7 @@ use Rattle.reading.specs.Read.{ok, pick}
 use Rattle.reading.specs.Limits.{maxList}
 use Rattle.reading.specs.Text.{Name}
 use Rattle.reading.specs.Combine.{listOf}
-use Rattle.reading.specs.Decl.{ConstructorVariant, ConstructorGroup, readFieldDecl, readConstructorVariant, readConstructorGroup}
+use Rattle.reading.specs.Decl.{ConstructorVariant, ConstructorGroup, readFieldDecl, readConstructorVariant}
 use Rattle.reading.specs.Decl as decl
 use Rattle.reading.specs.Pattern.{PatternVariant, Pattern, readPatternVariant, readPattern}
 use Rattle.reading.specs.Pattern as pattern
@@ -27,7 +27,7 @@ use Rattle.typing.specs.Patterns.{judged, declaredName, patternVariantNa
 use Rattle.typing.specs.Outputs.{fieldsOf}
 use Rattle.typing.specs.Means.{causeOf, withinOf, blameOf}
 use Rattle.typing.specs.Table.{afterHead, afterTag, Past}
-use Rattle.typing.specs.First.{FoundAt, groupName, FirstGroup, FirstVariant}
+use Rattle.typing.specs.First.{FoundAt, groupName, GroupsAt, GroupFound, FirstVariants, FirstVariant}
 use Rattle.typing.specs.Blames.{none-bound, Binds, Spares, JudgesPattern}
 use Rattle.typing.specs.Entries.{Entered, caseAt, givenFields, FieldsAt}
 use Rattle.typing.specs.Fields.{JudgesFields}
@@ -40,8 +40,9 @@ use Rattle.typing.specs.declared.entries.Entries.{Entries}
 use Rattle.typing.specs.declared.table.Found.{Found}
 use Rattle.typing.specs.declared.table.Found.the-variants.{At, Nothing}
 use Rattle.typing.proofs.EntryLaws.{hasFields, declaresFields, pattern-fields, declared-fields}
-use Rattle.typing.proofs.PartLaws.{option-null, option-there, group-variants, pattern-group, pattern-variant, pattern-text}
+use Rattle.typing.proofs.PartLaws.{option-null, option-there, pattern-group, pattern-variant, pattern-text}
 use Rattle.typing.proofs.FirstLaws.{found-no, found-yes, called-is}
+use Rattle.typing.proofs.GroupLaws.{group-no, group-yes}
 
 -- nothing is bound
 binds-alone : (s table : List ℕ) (k : ℕ) {c : Cause} {r : Bindings} {e : causes.Cause} → r ≡ blamed c → causeOf s c ≡ e → Binds s table k (judged (blame alone (some e))) r table
@@ -124,18 +125,18 @@ module _ (s : List ℕ) (at declared : ℕ) (table : List ℕ) (k : ℕ) {a b : 
         go (pattern.struct v xs) n d m f g x y = no (cc)
 
 -- the variant in its group
-module _ (s : List ℕ) (at group name : ℕ) (table : List ℕ) (k : ℕ) {variant variants : ℕ} {text : Name} {f : Found} (h : variant ≡ afterTag s at) (o : Past s (afterHead s group) variants) (t : text ≡ textAt s variant) (i : FirstVariant s variants text f) where
-  variant-found : (v : PatternVariant) (n : ℕ) (g : ConstructorGroup) (m : ℕ) → readPatternVariant s at ≡ ok v n → readConstructorGroup s group ≡ ok g m → FoundAt readConstructorVariant s f (firstCalled declaredName (patternVariantName v) (g .variants))
-  variant-found v n g m p q = rw (t ∙ pattern-text s at v n h p) at (i .of (g .variants) m (group-variants s group g m q o))
+module _ (s : List ℕ) (at variants name : ℕ) (table : List ℕ) (k : ℕ) {variant : ℕ} {text : Name} {f : Found} (h : variant ≡ afterTag s at) (t : text ≡ textAt s variant) (i : FirstVariant s variants text f) where
+  variant-found : (v : PatternVariant) (n : ℕ) (g : ConstructorGroup) (m : ℕ) → readPatternVariant s at ≡ ok v n → listOf maxList readConstructorVariant s variants ≡ ok (g .variants) m → FoundAt readConstructorVariant s f (firstCalled declaredName (patternVariantName v) (g .variants))
+  variant-found v n g m p q = rw (t ∙ pattern-text s at v n h p) at (i .of (g .variants) m q)
 
-  pub group-none : {r : Bindings} → f ≡ Nothing → r ≡ blamed (UnknownEventVariant variant name) → JudgesGroup s at group name table k r table
+  pub group-none : {r : Bindings} → f ≡ Nothing → r ≡ blamed (UnknownEventVariant variant name) → JudgesGroup s at variants name table k r table
   unfolding judgeGroup judgeDeclared causeOf
   group-none e q = record {
     of = λ v n g m p u z.
         rw (found-no (variant-found v n g m p u) e) (binds-alone s table k q (rw (pattern-text s at v n h p, z)));
   }
 
-  pub group-variant : {declared : ℕ} {r : Bindings} {table′ : List ℕ} → f ≡ At declared → JudgesVariant s at declared table k r table′ → JudgesGroup s at group name table k r table′
+  pub group-variant : {declared : ℕ} {r : Bindings} {table′ : List ℕ} → f ≡ At declared → JudgesVariant s at declared table k r table′ → JudgesGroup s at variants name table k r table′
   unfolding judgeGroup judgeDeclared
   group-variant e q = record {
     of = λ v n g m p u z.
@@ -144,34 +145,34 @@ module _ (s : List ℕ) (at group name : ℕ) (table : List ℕ) (k : ℕ) {vari
   }
 
 -- the pattern
-module _ (s : List ℕ) (at events : ℕ) (table : List ℕ) (k : ℕ) {name : ℕ} {text : Name} {f : Found} (h : name ≡ afterHead s at) (t : text ≡ textAt s name) (i : FirstGroup s events text f) where
-  group-found : (gs : List ConstructorGroup) (m : ℕ) (p : Pattern) (n : ℕ) → listOf maxList readConstructorGroup s events ≡ ok gs m → readPattern s at ≡ ok p n → FoundAt readConstructorGroup s f (firstCalled groupName (p .group) gs)
-  group-found gs m p n e g = rw (t ∙ pattern-group s at p n g h) at (i .of gs m e)
+module _ (s : List ℕ) (at : ℕ) (events table : List ℕ) (k : ℕ) {name : ℕ} {text : Name} {f : Found} (h : name ≡ afterHead s at) (t : text ≡ textAt s name) (i : FirstVariants s events text f) where
+  group-found : (gs : List ConstructorGroup) (p : Pattern) (n : ℕ) → GroupsAt s events gs → readPattern s at ≡ ok p n → GroupFound s f (firstCalled groupName (p .group) gs)
+  group-found gs p n e g = rw (t ∙ pattern-group s at p n g h) at (i .of gs e)
 
   pub pattern-none : {r : Bindings} → f ≡ Nothing → r ≡ blamed (UnknownEventGroup name) → JudgesPattern s at events table k r table
   unfolding validateEventPattern judgeNamed causeOf
   pattern-none e q = record {
-    of = λ gs m p n a g.
-        rw (found-no (group-found gs m p n a g) e) (binds-alone s table k q (rw (pattern-group s at p n g h)));
+    of = λ gs p n a g.
+        rw (group-no (group-found gs p n a g) e) (binds-alone s table k q (rw (pattern-group s at p n g h)));
   }
 
-  module _ {group variant : ℕ} {b : Bool} (e : f ≡ At group) (o : Past s name variant) (j : b ≡ eqb (getD s variant 0) 246) where
+  module _ {variants variant : ℕ} {b : Bool} (e : f ≡ At variants) (o : Past s name variant) (j : b ≡ eqb (getD s variant 0) 246) where
     variant-stands : (p : Pattern) (n : ℕ) → readPattern s at ≡ ok p n → OptionAt readPatternVariant s variant (p .variant) n
     variant-stands p n g = option-at readPatternVariant s variant (p .variant) n (pattern-variant s at p n g h o)
 
     pub pattern-bare : b ≡ true → JudgesPattern s at events table k (record { blame = blames.Nothing; words = 0 }) table
     unfolding validateEventPattern judgeNamed judgeGroup
     pattern-bare z = record {
-      of = λ gs m p n a g.
-          let x = found-yes (group-found gs m p n a g) e in
+      of = λ gs p n a g.
+          let x = group-yes (group-found gs p n a g) e in
           rw (x .3) (subst (λ (v : Option PatternVariant). Binds s table k (judgeGroup (x .0) v) (record { blame = blames.Nothing; words = 0 }) table) (sym (option-null j z (variant-stands p n g))) (binds-nothing s table k));
     }
 
-    pub variant-goes : {r : Bindings} {table′ : List ℕ} → b ≡ false → JudgesGroup s variant group name table k r table′ → JudgesPattern s at events table k r table′
+    pub variant-goes : {r : Bindings} {table′ : List ℕ} → b ≡ false → JudgesGroup s variant variants name table k r table′ → JudgesPattern s at events table k r table′
     unfolding validateEventPattern judgeNamed
     variant-goes {r} {table′} z q = record {
-      of = λ gs m p n a g.
-          let x = found-yes (group-found gs m p n a g) e in
+      of = λ gs p n a g.
+          let x = group-yes (group-found gs p n a g) e in
           let v = option-there j z (variant-stands p n g) in
           let y : textAt s name ≡ x .0 .name = pattern-group s at p n g h ∙ sym (called-is groupName (p .group) gs (x .0) (x .3)) in
           rw (x .3) (subst (λ (o : Option PatternVariant). Binds s table k (judgeGroup (x .0) o) r table′) (sym (v .1)) (q .of (v .0) n (x .0) (x .1) (v .2) (x .2) y));

@@ -9,7 +9,7 @@ use Rattle.reading.specs.Read.{Reader, ok, pick}
 use Rattle.reading.specs.Limits.{maxList}
 use Rattle.reading.specs.Item.{readCount, readTag}
 use Rattle.reading.specs.Text.{Name}
-use Rattle.reading.specs.Decl.{EnumDecl, ConstructorVariant, ConstructorGroup, readEnumDecl, readConstructorVariant, readConstructorGroup}
+use Rattle.reading.specs.Decl.{EnumDecl, ConstructorVariant, readEnumDecl, readConstructorVariant}
 use Rattle.reading.specs.Skip.{textAt}
 use Rattle.reading.specs.Link.{taggedOf}
 use Rattle.reading.specs.Views.{ConstructorVariantAt, unit-variant, struct-variant}
@@ -28,7 +28,7 @@ use Rattle.typing.specs.Causes.{firstOf}
 use Rattle.typing.specs.Names.{eqName, called, firstCalled}
 use Rattle.typing.specs.Patterns.{declaredName}
 use Rattle.typing.specs.Table.{placeAfter, afterItem, afterHead, afterTag, Past}
-use Rattle.typing.specs.First.{FoundAt, found-here, found-nothing, groupName, enumName, First, FirstGroup, FirstEnum, FirstVariant, PastVariant}
+use Rattle.typing.specs.First.{FoundAt, found-here, found-nothing, enumName, First, FirstEnum, FirstVariant, PastVariant}
 use Rattle.typing.specs.Entries.{opened}
 use Rattle.typing.specs.declared.entries.Entries.{Entries}
 use Rattle.typing.specs.declared.table.Found.{Found}
@@ -37,7 +37,7 @@ use Rattle.typing.proofs.NameLaws.{eqName-eq}
 use Rattle.typing.proofs.TableLaws.{tag-was, tag-out}
 use Rattle.typing.proofs.EnvLaws.{after-is}
 use Rattle.typing.proofs.EntryLaws.{entered, Scanning, scan-done, scan-turn, scan-next}
-use Rattle.typing.proofs.PartLaws.{past-at, group-text, group-ends, enum-text, enum-ends}
+use Rattle.typing.proofs.PartLaws.{past-at, enum-text, enum-ends}
 
 -- what was found, from what the code learnt of it
 module _ {A : Type 0} {F : Reader A} {s : List ℕ} where
@@ -91,27 +91,16 @@ variant-text s k x n e = let u = constructor-variant-at s k x n e in rw (u .tagg
     go {m} (unit-variant q) = name-text s m _ _ q
     go {m} (struct-variant q r) = name-text s m _ _ q
 
--- records: the name stands after the head, and one more field after the name
-module _ (s : List ℕ) (at : ℕ) (w : Name) {e : Entries} (o : e ≡ opened (readCount maxList s at)) (left k : ℕ) (z : 0 < left) {key : ℕ} {text : Name} {b : Bool} (t : text ≡ textAt s key) (f : b ≡ eqName text w) (i : key ≡ afterHead s k) where
-  module _ (g : Seeking readConstructorGroup groupName s w (e .many) (e .first) left k) where
-    group-called : (x : ConstructorGroup) (n : ℕ) → readConstructorGroup s k ≡ ok x n → b ≡ eqName (groupName x) w
-    group-called x n q = f ∙ ap (λ (y : Name). eqName y w) (t ∙ ap (textAt s) i ∙ group-text s k x n q)
+-- enums: the name stands after the head, and one more field after the name
+module _ (s : List ℕ) (at : ℕ) (w : Name) {e : Entries} (o : e ≡ opened (readCount maxList s at)) (left k : ℕ) (z : 0 < left) {key : ℕ} {text : Name} {b : Bool} (t : text ≡ textAt s key) (f : b ≡ eqName text w) (i : key ≡ afterHead s k) (g : Seeking readEnumDecl enumName s w (e .many) (e .first) left k) where
+  enum-called : (x : EnumDecl) (n : ℕ) → readEnumDecl s k ≡ ok x n → b ≡ eqName (enumName x) w
+  enum-called x n q = f ∙ ap (λ (y : Name). eqName y w) (t ∙ ap (textAt s) i ∙ enum-text s k x n q)
 
-    pub group-hit : b ≡ true → FirstGroup s at w (At k)
-    group-hit = hit readConstructorGroup groupName s at w o left k g z group-called
+  pub enum-hit : b ≡ true → FirstEnum s at w (At k)
+  enum-hit = hit readEnumDecl enumName s at w o left k g z enum-called
 
-    pub group-miss : {under k' : ℕ} → b ≡ false → Past s key under → Past s under k' → Seeking readConstructorGroup groupName s w (e .many) (e .first) (left - 1) k'
-    group-miss y u p = miss readConstructorGroup groupName s at w o left k g z group-called y λ x n q. group-ends s k x n q (past-at i u) p
-
-  module _ (g : Seeking readEnumDecl enumName s w (e .many) (e .first) left k) where
-    enum-called : (x : EnumDecl) (n : ℕ) → readEnumDecl s k ≡ ok x n → b ≡ eqName (enumName x) w
-    enum-called x n q = f ∙ ap (λ (y : Name). eqName y w) (t ∙ ap (textAt s) i ∙ enum-text s k x n q)
-
-    pub enum-hit : b ≡ true → FirstEnum s at w (At k)
-    enum-hit = hit readEnumDecl enumName s at w o left k g z enum-called
-
-    pub enum-miss : {under k' : ℕ} → b ≡ false → Past s key under → Past s under k' → Seeking readEnumDecl enumName s w (e .many) (e .first) (left - 1) k'
-    enum-miss y u p = miss readEnumDecl enumName s at w o left k g z enum-called y λ x n q. enum-ends s k x n q (past-at i u) p
+  pub enum-miss : {under k' : ℕ} → b ≡ false → Past s key under → Past s under k' → Seeking readEnumDecl enumName s w (e .many) (e .first) (left - 1) k'
+  enum-miss y u p = miss readEnumDecl enumName s at w o left k g z enum-called y λ x n q. enum-ends s k x n q (past-at i u) p
 
 -- after a declared variant: past its name, or past its fields
 module _ (s : List ℕ) (name case : ℕ) {fields : ℕ} (o : Past s name fields) where

@@ -18,6 +18,7 @@ pub mod PartLaws
 pub mod JudgeLaws
 pub mod AcceptLaws
 pub mod FirstLaws
+pub mod GroupLaws
 pub mod FieldLaws
 pub mod WalkLaws
 pub mod EventLaws

@@ -12,7 +12,7 @@ use Rattle.reading.specs.Read.{Reader, ok}
 use Rattle.reading.specs.Limits.{maxList}
 use Rattle.reading.specs.Combine.{listOf, optional}
 use Rattle.reading.specs.Text.{readName}
-use Rattle.reading.specs.Decl.{FieldDecl, EnumDecl, ConstructorGroup, readNames, readTy, readFieldDecl, readEnumDecl, readConstructorVariant, readConstructorGroup}
+use Rattle.reading.specs.Decl.{FieldDecl, EnumDecl, readNames, readTy, readFieldDecl, readEnumDecl}
 use Rattle.reading.specs.Pattern.{PatternField, PatternVariant, Pattern, readPatternExpr, readPatternField, readPatternVariant, readPattern}
 use Rattle.reading.specs.Skip.{textAt}
 use Rattle.reading.specs.Views.{OptionAt, absent, present, PatternVariantAt, unit-pattern, struct-pattern}
@@ -22,13 +22,13 @@ use Rattle.reading.proofs.OptionLaws.{option-laws}
 use Rattle.reading.proofs.ExprLaws.{name-laws, name-solid}
 use Rattle.reading.proofs.DeclLaws.{names-laws, ty-laws, constructor-variant-laws}
 use Rattle.reading.proofs.PatternLaws.{pattern-expr-laws}
-use Rattle.reading.proofs.Views.{field-decl-at, enum-decl-at, constructor-group-at, pattern-field-at, pattern-at}
+use Rattle.reading.proofs.Views.{field-decl-at, enum-decl-at, pattern-field-at, pattern-at}
 use Rattle.reading.proofs.CaseViews.{pattern-variant-at}
 use Rattle.reading.proofs.ListViews.{option-at}
 use Rattle.reading.proofs.Walks.{name-text}
 use Rattle.typing.specs.Patterns.{patternVariantName}
 use Rattle.typing.specs.Table.{placeAfter, afterItem, afterHead, afterTag, Past}
-use Rattle.typing.specs.First.{groupName, enumName}
+use Rattle.typing.specs.First.{enumName}
 use Rattle.typing.proofs.EnvLaws.{after-is, fields-head}
 
 -- the place after the item at a place that is known
@@ -61,21 +61,6 @@ module _ (s : List ℕ) (at : ℕ) where
 
     pub field-ends : {p q : ℕ} → Past s (afterHead s at) p → Past s p q → q ≡ n
     field-ends {p} o w = w .is ∙ after-is ty-laws s (w .each) p (x .ty) n (field-type o)
-
-  module _ (x : ConstructorGroup) (n : ℕ) (g : readConstructorGroup s at ≡ ok x n) where
-    pub group-text : textAt s (afterHead s at) ≡ groupName x
-    group-text =
-        let v = constructor-group-at s at x n g in
-        ap (textAt s) (fields-head 2 s at tt (v .name) (v .opens)) ∙ name-text s (v .name) (x .name) (v .variants) (v .name-is)
-
-    pub group-variants : {p : ℕ} → Past s (afterHead s at) p → listOf maxList readConstructorVariant s p ≡ ok (x .variants) n
-    group-variants {p} o =
-        let v = constructor-group-at s at x n g in
-        let i : p ≡ v .variants = o .is ∙ ap (afterItem s) (fields-head 2 s at tt (v .name) (v .opens)) ∙ after-is name-laws s (o .each) (v .name) (x .name) (v .variants) (v .name-is) in
-        ap (listOf maxList readConstructorVariant s) i ∙ v .variants-is
-
-    pub group-ends : {p q : ℕ} → Past s (afterHead s at) p → Past s p q → q ≡ n
-    group-ends {p} o w = w .is ∙ after-is (list-laws constructor-variant-laws maxList (omega arith)) s (w .each) p (x .variants) n (group-variants o)
 
   module _ (x : EnumDecl) (n : ℕ) (g : readEnumDecl s at ≡ ok x n) where
     pub enum-text : textAt s (afterHead s at) ≡ enumName x

@@ -237,23 +237,44 @@ module _ (s names enums : List ℕ) (at next : ℕ) {a : Answer} (e : a ≡ answ
             let a2 : textAt s (afterItem s (c .at)) ≡ y = ap (textAt s) k ∙ name-text s (t .end) (t' .entry) (t' .end) (t' .here) ∙ sym v' in
             rw (a1, a2, sym i) at h
 
--- a path ends where the item does, and one of one name where the name does
+-- a path ends where the item does, and one of one or two names where the last of them does
 pub path-ends : (s : List ℕ) (at : ℕ) {r : ℕ} → Past s at r → Ends (readPath s at) r
 path-ends s at o = record { of = λ p n g. o .is ∙ after-is path-laws s (o .each) at p n g }
 
-pub name-ends : (s : List ℕ) (at : ℕ) {r : ℕ} → at < length s → getD s at 0 ≡ 129 → Past s (at + 1) r → Ends (readPath s at) r
-unfolding readPath readCount readKind bind pick
-name-ends s at {r} h b o = record { of = λ p n g. go p n (list-at readName s maxPath at p n g) }
-  where
-    opens : readCount maxPath s at ≡ ok 1 (at + 1)
-    opens = rw (head-one s at h 4 1 (omega arith) (omega arith) (omega arith) (omega arith))
+module _ (s : List ℕ) (at : ℕ) (h : at < length s) where
+  one-opens : getD s at 0 ≡ 129 → readCount maxPath s at ≡ ok 1 (at + 1)
+  unfolding readCount readKind bind pick
+  one-opens b = rw (head-one s at h 4 1 (omega arith) (omega arith) (omega arith) (omega arith))
 
-    go : (p : List Name) (n : ℕ) → ListAt maxPath readName s at p n → r ≡ n
-    go p n l =
-        let u = l .opens in
-        let v = opens in
-        let i : length p ≡ 1 = cc in
-        let j : l .first ≡ at + 1 = cc in
-        let t = turn readName s (omega arith) (rest-all readName s l) in
-        let k = after-is name-laws s (o .each) (l .first) (t .entry) (t .end) (t .here) in
-        o .is ∙ ap (afterItem s) (sym j) ∙ k ∙ rest-none readName s (omega arith) (t .next)
+  two-opens : getD s at 0 ≡ 130 → readCount maxPath s at ≡ ok 2 (at + 1)
+  unfolding readCount readKind bind pick
+  two-opens b = rw (head-one s at h 4 2 (omega arith) (omega arith) (omega arith) (omega arith))
+
+  pub name-ends : {r : ℕ} → getD s at 0 ≡ 129 → Past s (at + 1) r → Ends (readPath s at) r
+  unfolding readPath
+  name-ends {r} b o = record { of = λ p n g. go p n (list-at readName s maxPath at p n g) }
+    where
+      go : (p : List Name) (n : ℕ) → ListAt maxPath readName s at p n → r ≡ n
+      go p n l =
+          let u = l .opens in
+          let v = one-opens b in
+          let i : length p ≡ 1 = cc in
+          let j : l .first ≡ at + 1 = cc in
+          let t = turn readName s (omega arith) (rest-all readName s l) in
+          let k = after-is name-laws s (o .each) (l .first) (t .entry) (t .end) (t .here) in
+          o .is ∙ ap (afterItem s) (sym j) ∙ k ∙ rest-none readName s (omega arith) (t .next)
+
+  pub names-end : {m r : ℕ} → getD s at 0 ≡ 130 → Past s (at + 1) m → Past s m r → Ends (readPath s at) r
+  unfolding readPath
+  names-end {m} {r} b o w = record { of = λ p n g. go p n (list-at readName s maxPath at p n g) }
+    where
+      go : (p : List Name) (n : ℕ) → ListAt maxPath readName s at p n → r ≡ n
+      go p n l =
+          let u = l .opens in
+          let v = two-opens b in
+          let i : length p ≡ 2 = cc in
+          let j : l .first ≡ at + 1 = cc in
+          let t = turn readName s (omega arith) (rest-all readName s l) in
+          let y = turn readName s (omega arith) (t .next) in
+          let k : m ≡ t .end = o .is ∙ ap (afterItem s) (sym j) ∙ after-is name-laws s (o .each) (l .first) (t .entry) (t .end) (t .here) in
+          w .is ∙ ap (afterItem s) k ∙ after-is name-laws s (w .each) (t .end) (y .entry) (y .end) (y .here) ∙ rest-none readName s (omega arith) (y .next)

@@ -5,9 +5,7 @@ use mathlib.Core.List.{List, [], _∷_}
 use lib.ListN.{length, take}
 use lib.Seq.{sets}
 use Rattle.reading.specs.Read.{ok}
-use Rattle.reading.specs.Limits.{maxList}
-use Rattle.reading.specs.Combine.{listOf}
-use Rattle.reading.specs.Decl.{ConstructorGroup, readConstructorGroup}
+use Rattle.reading.specs.Decl.{ConstructorGroup}
 use Rattle.reading.specs.Pattern.{Pattern, readPattern}
 use Rattle.reading.specs.Transition.{OutputExpr, readOutputExpr}
 use Rattle.reading.specs.Skip.{textAt}
@@ -16,6 +14,7 @@ use Rattle.typing.specs.Patterns.{Judged, validateEventPattern}
 use Rattle.typing.specs.Outputs.{validateOutputExpr}
 use Rattle.typing.specs.Means.{blameOf}
 use Rattle.typing.specs.Table.{exprTypeAt}
+use Rattle.typing.specs.First.{GroupsAt}
 use Rattle.typing.specs.declared.cause.Blame.{Blame}
 use Rattle.typing.specs.declared.cause.Bindings.{Bindings}
 
@@ -38,10 +37,10 @@ pub record Spares (table : List ℕ) (k : ℕ) (r : Bindings) (table′ : List �
   pub few : r .words ≤ 510
   pub kept : take k table′ ≡ take k table
 
--- the pattern at a place, by the groups of events at another
-pub record JudgesPattern (s : List ℕ) (at events : ℕ) (table : List ℕ) (k : ℕ) (r : Bindings) (table′ : List ℕ) : Type 0 where
-  pub of : (gs : List ConstructorGroup) (i : ℕ) (p : Pattern) (j : ℕ) → listOf maxList readConstructorGroup s events ≡ ok gs i → readPattern s at ≡ ok p j → Binds s table k (validateEventPattern gs p) r table′
+-- the pattern at a place, by a table of the groups of events
+pub record JudgesPattern (s : List ℕ) (at : ℕ) (events table : List ℕ) (k : ℕ) (r : Bindings) (table′ : List ℕ) : Type 0 where
+  pub of : (gs : List ConstructorGroup) (p : Pattern) (j : ℕ) → GroupsAt s events gs → readPattern s at ≡ ok p j → Binds s table k (validateEventPattern gs p) r table′
 
--- the output at a place, by the groups of outputs at another
-pub record JudgesOutput (env : Env) (s : List ℕ) (at outputs : ℕ) (r : Blame) : Type 0 where
-  pub of : (gs : List ConstructorGroup) (i : ℕ) (o : OutputExpr) (j : ℕ) → listOf maxList readConstructorGroup s outputs ≡ ok gs i → readOutputExpr s at ≡ ok o j → blameOf s r ≡ validateOutputExpr gs env o
+-- the output at a place, by a table of the groups of outputs
+pub record JudgesOutput (env : Env) (s : List ℕ) (at : ℕ) (outputs : List ℕ) (r : Blame) : Type 0 where
+  pub of : (gs : List ConstructorGroup) (o : OutputExpr) (j : ℕ) → GroupsAt s outputs gs → readOutputExpr s at ≡ ok o j → blameOf s r ≡ validateOutputExpr gs env o

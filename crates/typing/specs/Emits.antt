@@ -8,7 +8,7 @@ use Rattle.reading.specs.Limits.{maxList}
 use Rattle.reading.specs.Text.{Name, readName}
 use Rattle.reading.specs.Expr.{Expr}
 use Rattle.reading.specs.Combine.{listOf, optional}
-use Rattle.reading.specs.Decl.{Ty, FieldDecl, ConstructorVariant, ConstructorGroup, readTy, readFieldDecl, readConstructorVariant, readConstructorGroup}
+use Rattle.reading.specs.Decl.{Ty, FieldDecl, ConstructorVariant, ConstructorGroup, readTy, readFieldDecl, readConstructorVariant}
 use Rattle.reading.specs.Transition.{OutputExpr, readTopExpr}
 use Rattle.reading.specs.Skip.{textAt}
 use Rattle.typing.specs.Types.{typeToExprType}
@@ -38,12 +38,12 @@ pub record OnlyVariant (s : List ℕ) (at : ℕ) (r : Found) : Type 0 where
 pub record NamesVariant (s : List ℕ) (at variants : ℕ) (r : Found) : Type 0 where
   pub of : (v : Option Name) (n : ℕ) (vs : List ConstructorVariant) (m : ℕ) → optional readName s at ≡ ok v n → listOf maxList readConstructorVariant s variants ≡ ok vs m → nameFound s r ≡ variantName v vs
 
--- the arguments, by the declared variant, by the variants, and by the declared group
+-- the arguments, by the declared variant, by the variants, and by the group whose variants they are
 pub record JudgesVariant (env : Env) (s : List ℕ) (args name decl : ℕ) (r : Blame) : Type 0 where
   pub of : (o : OutputExpr) (n : ℕ) (d : ConstructorVariant) (m : ℕ) → listOf maxList readTopExpr s args ≡ ok (o .args) n → readConstructorVariant s decl ≡ ok d m → blameOf s r ≡ judgeOutputVariant env o (textAt s name) (some d)
 
 pub record JudgesName (env : Env) (s : List ℕ) (group args name variants : ℕ) (r : Blame) : Type 0 where
   pub of : (o : OutputExpr) (n : ℕ) (vs : List ConstructorVariant) (m : ℕ) → textAt s group ≡ o .group → listOf maxList readTopExpr s args ≡ ok (o .args) n → listOf maxList readConstructorVariant s variants ≡ ok vs m → blameOf s r ≡ judgeOutputVariant env o (textAt s name) (firstCalled declaredName (textAt s name) vs)
 
-pub record JudgesGroup (env : Env) (s : List ℕ) (group decl : ℕ) (r : Blame) : Type 0 where
-  pub of : (o : OutputExpr) (k a n : ℕ) (g : ConstructorGroup) (m : ℕ) → readName s group ≡ ok (o .group) k → optional readName s k ≡ ok (o .variant) a → listOf maxList readTopExpr s a ≡ ok (o .args) n → readConstructorGroup s decl ≡ ok g m → blameOf s r ≡ judgeOutput env o (some g)
+pub record JudgesGroup (env : Env) (s : List ℕ) (group variants : ℕ) (r : Blame) : Type 0 where
+  pub of : (o : OutputExpr) (k a n : ℕ) (g : ConstructorGroup) (m : ℕ) → readName s group ≡ ok (o .group) k → optional readName s k ≡ ok (o .variant) a → listOf maxList readTopExpr s a ≡ ok (o .args) n → listOf maxList readConstructorVariant s variants ≡ ok (g .variants) m → blameOf s r ≡ judgeOutput env o (some g)

@@ -5,7 +5,9 @@ use mathlib.Core.List.{List}
 use mathlib.Core.Option.{some}
 use Rattle.reading.specs.Read.{ok}
 use Rattle.reading.specs.Text.{Name}
-use Rattle.reading.specs.Decl.{FieldDecl, ConstructorVariant, ConstructorGroup, readConstructorVariant, readConstructorGroup}
+use Rattle.reading.specs.Limits.{maxList}
+use Rattle.reading.specs.Combine.{listOf}
+use Rattle.reading.specs.Decl.{FieldDecl, ConstructorVariant, ConstructorGroup, readConstructorVariant}
 use Rattle.reading.specs.Decl as decl
 use Rattle.reading.specs.Pattern.{PatternField, PatternVariant, readPatternVariant}
 use Rattle.reading.specs.Pattern as pattern
@@ -28,6 +30,6 @@ pub record JudgesStruct (s : List ℕ) (at declared : ℕ) (table : List ℕ) (k
 pub record JudgesVariant (s : List ℕ) (at declared : ℕ) (table : List ℕ) (k : ℕ) (r : Bindings) (table′ : List ℕ) : Type 0 where
   pub of : (v : PatternVariant) (n : ℕ) (d : ConstructorVariant) (m : ℕ) → readPatternVariant s at ≡ ok v n → readConstructorVariant s declared ≡ ok d m → Binds s table k (judgeVariant d v) r table′
 
--- of the declared group at another; its name stands at a third too
-pub record JudgesGroup (s : List ℕ) (at group name : ℕ) (table : List ℕ) (k : ℕ) (r : Bindings) (table′ : List ℕ) : Type 0 where
-  pub of : (v : PatternVariant) (n : ℕ) (g : ConstructorGroup) (m : ℕ) → readPatternVariant s at ≡ ok v n → readConstructorGroup s group ≡ ok g m → textAt s name ≡ g .name → Binds s table k (judgeGroup g (some v)) r table′
+-- of the group whose variants stand at another, and whose name stands at a third
+pub record JudgesGroup (s : List ℕ) (at variants name : ℕ) (table : List ℕ) (k : ℕ) (r : Bindings) (table′ : List ℕ) : Type 0 where
+  pub of : (v : PatternVariant) (n : ℕ) (g : ConstructorGroup) (m : ℕ) → readPatternVariant s at ≡ ok v n → listOf maxList readConstructorVariant s variants ≡ ok (g .variants) m → textAt s name ≡ g .name → Binds s table k (judgeGroup g (some v)) r table′

@@ -9,9 +9,8 @@ use crate::entries::has_case;
 use crate::field::judge_fields;
 use crate::fill::after_head;
 use crate::fill::after_tag;
-use crate::fill::second;
-use crate::first::first_record;
 use crate::first::first_variant;
+use crate::first::first_variants;
 use crate::table::Found;
 use crate::table::after;
 use reading::text_at;
@@ -65,41 +64,41 @@ fn judge_variant(doc: &[u8], at: usize, declared: usize, table: &mut [usize], k:
     }
 }
 
-// The pattern's variant at a place, of the declared group at another, whose name stands at a third too.
+// The pattern's variant at a place, of the group whose variants stand at another, and whose name stands at a third.
 fn judge_group(
     doc: &[u8],
     at: usize,
-    group: usize,
+    variants: usize,
     name: usize,
     table: &mut [usize],
     k: usize,
 ) -> Bindings
-    ensures { λ r. ⌜ JudgesGroup (now (doc .entry)) at group name (now (table .entry)) k r (now (table .exit)) ⌝ }
+    ensures { λ r. ⌜ JudgesGroup (now (doc .entry)) at variants name (now (table .entry)) k r (now (table .exit)) ⌝ }
     ensures { λ r. ⌜ Spares (now (table .entry)) k r (now (table .exit)) ⌝ }
 {
     let variant = after_tag(doc, at);
-    let f = first_variant(doc, second(doc, group), text_at(doc, variant));
+    let f = first_variant(doc, variants, text_at(doc, variant));
     let Found::At(declared) = f else {
         return alone(Cause::UnknownEventVariant(variant, name));
     };
     judge_variant(doc, at, declared, table, k)
 }
 
-// What is wrong with the pattern at a place, by the groups of events at another, if anything; and the bindings it makes, also those
+// What is wrong with the pattern at a place, by a table of the groups of events, if anything; and the bindings it makes, also those
 // before a fault: they are put into the table from word k on.
-pub fn validate_event_pattern(
-    doc: &[u8],
+pub fn validate_event_pattern<'a>(
+    doc: &'a [u8],
     at: usize,
-    events: usize,
+    events: &'a [usize],
     table: &mut [usize],
     k: usize,
 ) -> Bindings
-    ensures { λ r. ⌜ JudgesPattern (now (doc .entry)) at events (now (table .entry)) k r (now (table .exit)) ⌝ }
+    ensures { λ r. ⌜ JudgesPattern (now (doc .entry)) at (now (events .entry)) (now (table .entry)) k r (now (table .exit)) ⌝ }
     ensures { λ r. ⌜ Spares (now (table .entry)) k r (now (table .exit)) ⌝ }
 {
     let name = after_head(doc, at);
-    let f = first_record(doc, events, text_at(doc, name));
-    let Found::At(group) = f else {
+    let f = first_variants(doc, events, text_at(doc, name));
+    let Found::At(variants) = f else {
         return alone(Cause::UnknownEventGroup(name));
     };
     let variant = after(doc, name);
@@ -109,5 +108,5 @@ pub fn validate_event_pattern(
             words: 0,
         };
     }
-    judge_group(doc, variant, group, name, table, k)
+    judge_group(doc, variant, variants, name, table, k)
 }

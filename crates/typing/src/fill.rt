@@ -30,13 +30,6 @@ pub fn after_head(doc: &[u8], at: usize) -> usize
     }
 }
 
-// The place of what follows the first field of the record at a place.
-pub(crate) fn second(doc: &[u8], at: usize) -> usize
-    ensures { λ r. ⌜ Past (now (doc .entry)) (afterHead (now (doc .entry)) at) r ⌝ }
-{
-    after(doc, after_head(doc, at))
-}
-
 // Fills the table from the list of records at a place; how many words it takes.
 pub fn fill_table(doc: &[u8], at: usize, table: &mut [usize]) -> usize
     ensures { λ r. ⌜ Filled (now (table .entry)) (pairsAt (now (doc .entry)) at) r (now (table .exit)) ⌝ }

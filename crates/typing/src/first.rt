@@ -7,11 +7,10 @@ use crate::table::after;
 use reading::Cursor;
 use reading::Tagged;
 use reading::text_at;
-ghost use Rattle.typing.specs.First.{FirstGroup, FirstEnum, FirstVariant, PastVariant};
+ghost use Rattle.typing.specs.First.{FirstEnum, FirstVariants, FirstVariant, PastVariant};
 
-// In the list of groups or enums at a place: both records begin with their name.
-pub fn first_record<'a>(doc: &'a [u8], at: usize, name: &'a [u8]) -> Found
-    ensures { λ r. ⌜ FirstGroup (now (doc .entry)) at (now (name .entry)) r ⌝ }
+// In the list of enums at a place.
+pub fn first_enum<'a>(doc: &'a [u8], at: usize, name: &'a [u8]) -> Found
     ensures { λ r. ⌜ FirstEnum (now (doc .entry)) at (now (name .entry)) r ⌝ }
 {
     let e = entries_at(doc, at);
@@ -25,6 +24,22 @@ pub fn first_record<'a>(doc: &'a [u8], at: usize, name: &'a [u8]) -> Found
         let under = after(doc, key);
         k = after(doc, under);
         left -= 1;
+    }
+    Found::Nothing
+}
+
+// In a table of groups: the place of the first one's variants.
+pub fn first_variants<'a>(doc: &'a [u8], groups: &'a [usize], name: &'a [u8]) -> Found
+    ensures { λ r. ⌜ FirstVariants (now (doc .entry)) (now (groups .entry)) (now (name .entry)) r ⌝ }
+{
+    let count = groups.len() / 2;
+    let mut k: usize = 0;
+    while k < count {
+        let key = groups[2 * k];
+        if same(text_at(doc, key), name) {
+            return Found::At(groups[2 * k + 1]);
+        }
+        k += 1;
     }
     Found::Nothing
 }

@@ -8,9 +8,8 @@ use crate::entries::entries_at;
 use crate::entries::fields_at;
 use crate::fill::after_head;
 use crate::fill::after_tag;
-use crate::fill::second;
-use crate::first::first_record;
 use crate::first::first_variant;
+use crate::first::first_variants;
 use crate::table::Found;
 use crate::table::after;
 use reading::text_at;
@@ -79,19 +78,18 @@ pub(crate) fn judge_output_name<'a>(
     judge_output_variant(doc, args, name, decl, names, enums)
 }
 
-// What is wrong with the output whose group's name stands at a place, by the group that is declared at another.
+// What is wrong with the output whose group's name stands at a place, by the group's variants at another.
 pub(crate) fn judge_output<'a>(
     doc: &'a [u8],
     group: usize,
-    decl: usize,
+    variants: usize,
     names: &'a [usize],
     enums: &'a [usize],
 ) -> Blame
-    ensures { λ r. ⌜ JudgesGroup (envAt (now (doc .entry)) (now (names .entry)) (now (enums .entry))) (now (doc .entry)) group decl r ⌝ }
+    ensures { λ r. ⌜ JudgesGroup (envAt (now (doc .entry)) (now (names .entry)) (now (enums .entry))) (now (doc .entry)) group variants r ⌝ }
 {
     let variant = after(doc, group);
     let args = after(doc, variant);
-    let variants = second(doc, decl);
     let f = variant_name(doc, variant, variants);
     let Found::At(name) = f else {
         return Blame::Found(Within::Alone, Cause::BareOutput(group));
@@ -99,20 +97,20 @@ pub(crate) fn judge_output<'a>(
     judge_output_name(doc, group, args, name, variants, names, enums)
 }
 
-// What is wrong with the output at a place, by the groups of outputs at another, if anything.
+// What is wrong with the output at a place, by a table of the groups of outputs, if anything.
 pub fn validate_output_expr<'a>(
     doc: &'a [u8],
     at: usize,
-    outputs: usize,
+    outputs: &'a [usize],
     names: &'a [usize],
     enums: &'a [usize],
 ) -> Blame
-    ensures { λ r. ⌜ JudgesOutput (envAt (now (doc .entry)) (now (names .entry)) (now (enums .entry))) (now (doc .entry)) at outputs r ⌝ }
+    ensures { λ r. ⌜ JudgesOutput (envAt (now (doc .entry)) (now (names .entry)) (now (enums .entry))) (now (doc .entry)) at (now (outputs .entry)) r ⌝ }
 {
     let group = after_head(doc, at);
-    let f = first_record(doc, outputs, text_at(doc, group));
-    let Found::At(decl) = f else {
+    let f = first_variants(doc, outputs, text_at(doc, group));
+    let Found::At(variants) = f else {
         return Blame::Found(Within::Alone, Cause::UnknownOutputGroup(group));
     };
-    judge_output(doc, group, decl, names, enums)
+    judge_output(doc, group, variants, names, enums)
 }

@@ -121,13 +121,17 @@ pub(crate) fn resolve_variant<'a>(
     Typed::Fails(Cause::UnknownVariant(variant, at))
 }
 
-// The place after the path at a place: one of one name ends where the name does.
+// The place after the path at a place: one of one or two names ends where the last of them does.
 pub(crate) fn after_path(doc: &[u8], at: usize) -> usize
     ensures { λ r. ⌜ Ends (readPath (now (doc .entry)) at) r ⌝ }
 {
     if at < doc.len() {
-        if doc[at] == 129 {
+        let head = doc[at];
+        if head == 129 {
             return after(doc, at + 1);
+        }
+        if head == 130 {
+            return after(doc, after(doc, at + 1));
         }
     }
     after_any(doc, at)

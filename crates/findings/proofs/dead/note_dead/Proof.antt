@@ -11,11 +11,6 @@ note-dead-spec =
     (tie.spec
     (λ c. search needs)
     (λ c κs. search needs)
-    (λ c. omega arith)
-    (λ c κs. search needs)
-    (λ c. omega arith)
-    (λ c. omega arith)
-    (λ c. omega arith)
     (λ c. search needs)
     (λ c κs. (omega arith, (search needs, (omega arith, omega arith))))
     (λ c. search needs)

@@ -1,4 +1,4 @@
--- Each field stands after the one before.
+-- The first fields, the rest, then the groups.
 use borrow.Author.Needs.{needs}
 use Rattle.findings.proofs.SceneLaws.{opened}
 use Rattle.findings.proofs.module.open_module.Statement.{statement}
@@ -8,10 +8,6 @@ pub open-module-spec : {M : Type 1} → statement M
 open-module-spec =
     tie.close
     (tie.spec
-    (λ c κs. search needs)
-    (λ c κs. search needs)
-    (λ c κs. search needs)
-    (λ c κs. search needs)
     (λ c κs. search needs)
     (λ c κs. search needs)
     (λ c κs. search needs)

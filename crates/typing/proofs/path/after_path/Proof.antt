@@ -1,6 +1,6 @@
 -- By its first byte.
 use borrow.Author.Needs.{needs}
-use Rattle.typing.proofs.PathLaws.{path-ends, name-ends}
+use Rattle.typing.proofs.PathLaws.{path-ends, name-ends, names-end}
 use Rattle.typing.proofs.path.after_path.Statement.{statement}
 use Rattle.typing.proofs.path.after_path.Tie as tie
 
@@ -12,5 +12,9 @@ after-path-spec =
     (λ c. search needs)
     (λ c κs. search needs)
     (λ c. search name-ends)
+    (λ c. search needs)
+    (λ c κs. search needs)
+    (λ c κs. search needs)
+    (λ c. search names-end)
     (λ c κs. search needs)
     (λ c. search path-ends))

@@ -4,12 +4,12 @@ use Prim.Native.Nat.{_-_, _/_, _≤_}
 use lib.ListN.{length}
 use native.Mathlib.Omega.{arith}
 use borrow.Author.Needs.{needs}
-use Rattle.findings.proofs.DeadLaws.{FirstLeft, first-start, first-hit, first-miss, first-done}
-use Rattle.findings.proofs.dead.first_variants.Statement.{statement}
-use Rattle.findings.proofs.dead.first_variants.Tie as tie
+use Rattle.typing.proofs.GroupLaws.{GroupsLeft, groups-start, groups-hit, groups-miss, groups-done}
+use Rattle.typing.proofs.first.first_variants.Statement.{statement}
+use Rattle.typing.proofs.first.first_variants.Tie as tie
 
 abbrev Inv-loop : tie.InvT-loop
-Inv-loop doc groups name count k₀ k = (k ≤ count) × (count ≡ length groups / 2) × FirstLeft doc groups name k
+Inv-loop doc groups name count k₀ k = (k ≤ count) × (count ≡ length groups / 2) × GroupsLeft doc groups name k
 
 abbrev μ-loop : tie.MeasureT-loop
 μ-loop doc groups name count k₀ k = count - k
@@ -20,7 +20,7 @@ first-variants-spec =
     (tie.spec
     Inv-loop
     μ-loop
-    (λ c. (omega arith, omega arith, search first-start))
+    (λ c. (omega arith, omega arith, search groups-start))
     (λ c. omega arith)
     (λ c. omega arith)
     (λ c. omega arith)
@@ -30,8 +30,8 @@ first-variants-spec =
     (λ c. omega arith)
     (λ c. omega arith)
     (λ c. omega arith)
-    (λ c. search first-hit)
+    (λ c. search groups-hit)
     (λ c. omega arith)
     (λ c. omega arith)
-    (λ c. (omega arith, omega arith, search first-miss))
-    (λ c. search first-done))
+    (λ c. (omega arith, omega arith, search groups-miss))
+    (λ c. search groups-done))
