@@ -29,3 +29,4 @@ pub mod Fields
 pub mod Event
 pub mod Holds
 pub mod Equalities
+pub mod Seen

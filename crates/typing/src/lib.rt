@@ -22,6 +22,7 @@ mod path;
 mod pattern;
 mod quick;
 mod rules;
+mod seen;
 mod side;
 mod table;
 mod temporal;
