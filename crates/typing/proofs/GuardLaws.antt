@@ -1,10 +1,11 @@
 -- What each step of the judging of a guard gives, for whatever reads there.
-use Prim.Native.Nat.{ℕ, _-_}
+use Prim.Native.Nat.{ℕ, _-_, _<_}
 use mathlib.Core.Path.{_≡_, refl, sym, ap, _∙_}
 use mathlib.Core.Bool.{Bool, true, false}
 use mathlib.Core.List.{List, _++_}
-use lib.Dec.{eqb}
-use borrow.Author.Tests.{eq-eqb, ne-eqb}
+use native.Mathlib.Omega.{arith}
+use lib.Dec.{eqb, ltb}
+use borrow.Author.Tests.{eq-eqb, ne-eqb, le-ltb}
 use Rattle.reading.specs.Read.{ok, pick}
 use Rattle.reading.specs.Item.{readKind, readBool}
 use Rattle.reading.specs.Text.{Name}
@@ -27,6 +28,9 @@ use Rattle.typing.specs.Tells.{Ends}
 use Rattle.typing.specs.Table.{placeAfter, afterTag}
 use Rattle.typing.specs.Entries.{caseIs, caseAt}
 use Rattle.typing.specs.Equalities.{listed, equalitiesOf, differs, firstClash, equalityOf, FalseAt, ConjunctAt, FirstEquality, ClashOf, FirstClash, ClashOfTwo}
+use Rattle.typing.specs.Seen.{Answers, OnePass}
+use Rattle.typing.specs.declared.seen.Seen.{Seen}
+use Rattle.typing.specs.declared.seen.Seen.the-variants as seen
 use Rattle.typing.specs.declared.guard.Clash.{Clash}
 use Rattle.typing.specs.declared.guard.Clash.the-variants as clash
 use Rattle.typing.specs.declared.equality.Equality.{Equality}
@@ -135,3 +139,16 @@ module _ (d : ℕ) (s : List ℕ) (at root depth : ℕ) {right : ℕ} {x : Clash
 pub contradicts : (d : ℕ) (s : List ℕ) (at : ℕ) (r : Clash) → FirstClash d s at at d r → Contradicts d s at r
 unfolding contradictoryEqualities
 contradicts d s at r h = record { of = λ e n g. h .of e n e n g g ∙ sym (clashes-are (conjuncts e)) }
+
+-- by the one pass, where the guard is long
+pub nothing-between : (at end : ℕ) → end < at → false ≡ ltb 511 (end - at)
+nothing-between at end h = sym (le-ltb 511 (end - at) (omega arith))
+
+module _ (d : ℕ) (s : List ℕ) (at : ℕ) {x : Seen} (h : OnePass d s at x) where
+  pub pass-none : {m : ℕ} → x ≡ seen.Many m → Contradicts d s at clash.Nothing
+  unfolding Answers clashOf
+  pass-none q = record { of = λ e n g. sym (rw q at (h .of e n g)) }
+
+  pub pass-clash : {n a b : ℕ} → x ≡ seen.Clash n a b → Contradicts d s at (clash.Found n a b)
+  unfolding Answers clashOf
+  pass-clash q = record { of = λ e n g. sym (rw q at (h .of e n g)) }

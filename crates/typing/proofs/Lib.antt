@@ -1,4 +1,5 @@
 -- Laws that belong to no one function, from the lowest to the highest.
+pub mod Cycle
 pub mod FitLaws
 pub mod VersionLaws
 pub mod NameLaws
@@ -26,5 +27,7 @@ pub mod ArgLaws
 pub mod EmitLaws
 pub mod ClashLaws
 pub mod EqualityLaws
+pub mod LaneLaws
+pub mod SeenLaws
 pub mod GuardLaws
 pub mod NumberLaws

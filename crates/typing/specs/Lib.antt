@@ -14,6 +14,7 @@ pub mod Settled
 pub mod Means
 pub mod Tells
 pub mod Table
+pub mod Lanes
 pub mod Typed
 pub mod Quick
 pub mod Shape
@@ -28,3 +29,4 @@ pub mod Fields
 pub mod Event
 pub mod Holds
 pub mod Equalities
+pub mod Seen

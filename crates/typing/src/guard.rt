@@ -6,9 +6,14 @@ use crate::equality::conjunct_at;
 use crate::equality::first_equality;
 use crate::expr::after_expr;
 use crate::fill::after_tag;
+use crate::seen::Seen;
+use crate::seen::clash_in_one_pass;
 use reading::Answer;
 use reading::Cursor;
 use reading::text_at;
+ghost use mathlib.Core.Path.{_≡_};
+ghost use Prim.Native.Nat.{_-_};
+ghost use lib.Dec.{ltb};
 ghost use Rattle.typing.specs.Holds.{LiteralFalse, Contradicts};
 ghost use Rattle.typing.specs.Equalities.{FalseAt, ClashOf, FirstClash, ClashOfTwo};
 
@@ -83,9 +88,28 @@ fn clash_of_two(doc: &[u8], at: usize, depth: u64, root: usize, levels: u64) -> 
     first_clash(doc, at, depth, root, levels)
 }
 
+// Whether so much stands between two places that one pass pays.
+fn is_long(at: usize, end: usize) -> bool
+    ensures { λ r. ⌜ r ≡ ltb 511 (end - at) ⌝ }
+{
+    if end < at {
+        return false;
+    }
+    511 < end - at
+}
+
 // A name that the guard at a place says to have two values, from right to left.
 pub fn contradictory_equalities(doc: &[u8], at: usize, depth: u64) -> Clash
     ensures { λ r. ⌜ Contradicts depth (now (doc .entry)) at r ⌝ }
 {
+    let end = after_expr(doc, at, depth);
+    if is_long(at, end) {
+        let r = clash_in_one_pass(doc, at, depth);
+        return match r {
+            Seen::Many(_) => Clash::Nothing,
+            Seen::Clash(name, earlier, later) => Clash::Found(name, earlier, later),
+            Seen::Full => first_clash(doc, at, depth, at, depth),
+        };
+    }
     first_clash(doc, at, depth, at, depth)
 }
