@@ -6,6 +6,7 @@ pub mod RuleLaws
 pub mod QuickLaws
 pub mod ShortLaws
 pub mod TableLaws
+pub mod LaneLaws
 pub mod PathLaws
 pub mod TypeLaws
 pub mod ShapeLaws
