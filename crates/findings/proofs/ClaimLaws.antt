@@ -1,13 +1,11 @@
 -- Properties by their table: names that stand earlier too, and formulas.
-use Prim.Native.Nat.{ℕ, zero, suc, _+_, _-_, _*_, _/_, _<_, _≤_}
+use Prim.Native.Nat.{ℕ, zero, suc, _+_, _*_, _/_, _<_, _≤_}
 use mathlib.Core.Path.{_≡_, refl, sym, ap, _∙_}
 use mathlib.Core.List.{List, [], _∷_, map}
 use mathlib.Core.Bool.{Bool, true, false, _||_}
 use mathlib.Core.Option.{Option, none, some}
 use native.Mathlib.Omega.{arith}
-use native.Mathlib.Nat.{sub-zero}
-use lib.ListN.{length, getD, getElem?, take, length-take, length-map}
-use lib.Seq.{getD-take}
+use lib.ListN.{length, getD, getElem?, length-map}
 use Rattle.reading.specs.Read.{pick}
 use Rattle.reading.specs.Limits.{maxDepth}
 use Rattle.reading.specs.Text.{Name}
@@ -18,7 +16,7 @@ use Rattle.reading.proofs.Walks.{name-text}
 use Rattle.typing.specs.Causes.{causeWord}
 use Rattle.typing.specs.Names.{eqName}
 use Rattle.typing.specs.Env.{Env, given, Agree}
-use Rattle.typing.specs.Table.{findFirst, findIn, found, envAt}
+use Rattle.typing.specs.Table.{findFirst, found, envAt}
 use Rattle.typing.specs.Means.{unfitOf}
 use Rattle.typing.specs.Formulas.{typeFormula}
 use Rattle.typing.specs.Shape.{Bounds}
@@ -37,13 +35,13 @@ use Rattle.findings.proofs.RowLaws.{moved}
 use Rattle.findings.proofs.EachLaws.{get-some, Counting, count-more, count-done}
 
 -- what was found under a name
-module _ (s table : List ℕ) (i : ℕ) {name : ℕ} {w : Name} {f : Found} (a : name ≡ getD table (2 * i) 0) (t : w ≡ textAt s name) (e : f ≡ found (findIn s w (take (2 * i - 0) table))) where
-  earlier-as : f ≡ found (findIn s (textAt s (getD table (2 * i) 0)) (take (2 * i) table))
-  earlier-as = e ∙ ap (λ (k : ℕ). found (findIn s w (take k table))) (sub-zero (2 * i)) ∙ ap (λ (v : Name). found (findIn s v (take (2 * i) table))) (t ∙ ap (textAt s) a)
+module _ (s table : List ℕ) (i : ℕ) {name : ℕ} {w : Name} {f : Found} (a : name ≡ getD table (2 * i) 0) (t : w ≡ textAt s name) (e : f ≡ found (findFirst s w table i)) where
+  earlier-as : f ≡ found (findFirst s (textAt s (getD table (2 * i) 0)) table i)
+  earlier-as = e ∙ ap (λ (v : Name). found (findFirst s v table i)) (t ∙ ap (textAt s) a)
 
   pub earlier-yes : {k : ℕ} → f ≡ At k → true ≡ earlierIn s table i
   unfolding given found
-  earlier-yes q = go (findIn s (textAt s (getD table (2 * i) 0)) (take (2 * i) table)) earlier-as
+  earlier-yes q = go (findFirst s (textAt s (getD table (2 * i) 0)) table i) earlier-as
     where
       go : (x : Option ℕ) → f ≡ found x → true ≡ given x
       go none z = no (cc)
@@ -51,7 +49,7 @@ module _ (s table : List ℕ) (i : ℕ) {name : ℕ} {w : Name} {f : Found} (a :
 
   pub earlier-no : f ≡ Nothing → false ≡ earlierIn s table i
   unfolding given found
-  earlier-no q = go (findIn s (textAt s (getD table (2 * i) 0)) (take (2 * i) table)) earlier-as
+  earlier-no q = go (findFirst s (textAt s (getD table (2 * i) 0)) table i) earlier-as
     where
       go : (x : Option ℕ) → f ≡ found x → false ≡ given x
       go none z = refl
@@ -85,11 +83,6 @@ get-map [] i p e = no (cc)
 get-map (x ∷ ps) zero p e = let q : x ≡ p = cc in ap (λ (z : Property). some (z .name)) q
 get-map (x ∷ ps) (suc i) p e = get-map ps i p e
 
-find-take : (s table : List ℕ) (w : Name) (m k : ℕ) → 2 * k ≤ m → findFirst s w (take m table) k ≡ findFirst s w table k
-unfolding findFirst
-find-take s table w m zero h = refl
-find-take s table w m (suc k) h = rw (getD-take m table (2 * k) 0 (omega arith), getD-take m table (2 * k + 1) 0 (omega arith), find-take s table w m k (omega arith))
-
 -- the table's names are the properties'
 module _ (s table : List ℕ) (ps : List Property) (g : Claims s table ps) where
   claim-text : (i : ℕ) (p : Property) → getElem? ps i ≡ some p → textAt s (getD table (2 * i) 0) ≡ p .name
@@ -105,13 +98,7 @@ module _ (s table : List ℕ) (ps : List Property) (g : Claims s table ps) where
       (sym (stands-more (map propertyName ps) k (p .0 .name) w (get-map ps k (p .0) (p .1))))
 
   pub earlier-is : (i : ℕ) (p : Property) → i < length ps → getElem? ps i ≡ some p → earlierIn s table i ≡ standsEarlier (map propertyName ps) i (p .name)
-  unfolding findIn
-  earlier-is i p h e =
-      let l : length (take (2 * i) table) / 2 ≡ i = omega (arith, length-take (2 * i) table, g .room) in
-      ap (λ (k : ℕ). given (findFirst s (textAt s (getD table (2 * i) 0)) (take (2 * i) table) k)) l
-      ∙ ap given (find-take s table (textAt s (getD table (2 * i) 0)) (2 * i) i (omega arith))
-      ∙ ap (λ (w : Name). given (findFirst s w table i)) (claim-text i p e)
-      ∙ find-earlier (p .name) i (omega arith)
+  earlier-is i p h e = ap (λ (w : Name). given (findFirst s w table i)) (claim-text i p e) ∙ find-earlier (p .name) i (omega arith)
 
 -- the names, one by one
 module _ (s table : List ℕ) where

@@ -13,9 +13,10 @@ use Rattle.reading.proofs.Rules.{by, no}
 use Rattle.reading.proofs.ListViews.{spanned}
 use Rattle.reading.proofs.OptionLaws.{option-laws}
 use Rattle.reading.proofs.TransitionLaws.{top-expr-laws, top-expr-solid}
+use Rattle.typing.specs.Lanes.{print}
 use Rattle.findings.specs.Pairs.{sameGuard}
 use Rattle.findings.specs.Scene.{field, RowAt, Rows}
-use Rattle.findings.specs.Prints.{print, printAt, Prints}
+use Rattle.findings.specs.Prints.{printAt, Prints}
 use Rattle.findings.specs.PairPromises.{SameGuard}
 use Rattle.findings.specs.PairSteps.{Alike, SamePriority}
 use Rattle.findings.specs.Classes.{kindOf, guardOf, SameKind, FirstAt, GuardPrint, Known, Tabled, Classed}

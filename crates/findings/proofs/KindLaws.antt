@@ -7,9 +7,10 @@ use Rattle.reading.specs.Pattern.{encPattern}
 use Rattle.reading.specs.Transition.{Transition}
 use Rattle.reading.proofs.Rules.{no}
 use Rattle.typing.specs.Names.{eqName}
+use Rattle.typing.specs.Lanes.{print}
 use Rattle.typing.proofs.NameLaws.{eqName-refl, eqName-eq}
 use Rattle.findings.specs.Pairs.{samePattern, sameGuard, alike}
-use Rattle.findings.specs.Prints.{print, ranked, keyOf}
+use Rattle.findings.specs.Prints.{ranked, keyOf}
 use Rattle.findings.specs.Classes.{Kind, kindOf, guardOf}
 
 and-left : (a b : Bool) → (a && b) ≡ true → a ≡ true

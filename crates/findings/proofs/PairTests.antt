@@ -16,10 +16,11 @@ use Rattle.reading.proofs.OptionLaws.{option-laws}
 use Rattle.reading.proofs.PatternLaws.{pattern-laws}
 use Rattle.reading.proofs.TransitionLaws.{top-expr-laws, top-expr-solid}
 use Rattle.typing.specs.Names.{eqName}
+use Rattle.typing.specs.Lanes.{print}
 use Rattle.typing.proofs.NameLaws.{eqName-eq}
 use Rattle.findings.specs.Pairs.{samePattern, sameGuard, alike}
 use Rattle.findings.specs.Scene.{field, RowAt}
-use Rattle.findings.specs.Prints.{print, printAt, PrintOf}
+use Rattle.findings.specs.Prints.{printAt, PrintOf}
 use Rattle.findings.specs.Parts.{SameSpan}
 use Rattle.findings.specs.PairPromises.{SameState, LeadsTo, SameGuard}
 use Rattle.findings.specs.PairSteps.{SamePattern, Alike}

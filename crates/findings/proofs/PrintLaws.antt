@@ -1,22 +1,22 @@
--- Prints: of bytes one after another, and of each transition while the table is filled.
-use Prim.Native.Nat.{ℕ, suc, _+_, _-_, _*_, _%_, _^_, _<_, _≤_}
+-- Prints: of parts of the document, and of each transition while the table is filled.
+use Prim.Native.Nat.{ℕ, suc, _+_, _-_, _*_, _<_, _≤_}
 use mathlib.Core.Path.{_≡_, refl, sym, ap, _∙_}
 use mathlib.Core.List.{List, [], _∷_}
 use mathlib.Core.Logic.{_≢_}
 use mathlib.Core.Option.{some}
 use native.Mathlib.Omega.{arith}
-use native.Mathlib.Numerals.{add-one}
 use native.Mathlib.Decide.{ℕ-discrete}
 use lib.ListN.{length, take, drop, getD, getElem?, set, length-set, length-drop, drop-of-length-le}
-use lib.Seq.{sets, length-sets, take-nil, take-all, drop-cons, getD-set-same, getD-set-other}
+use lib.Seq.{sets, length-sets, take-nil, take-all, getD-set-same, getD-set-other}
 use Rattle.reading.specs.Transition.{Transition}
 use Rattle.reading.specs.Skip.{textAt}
 use Rattle.reading.specs.Views.{span}
 use Rattle.reading.proofs.ListViews.{spanned}
 use Rattle.reading.proofs.Walks.{name-text}
 use Rattle.reading.proofs.PatternLaws.{pattern-laws}
+use Rattle.typing.specs.Lanes.{print}
 use Rattle.findings.specs.Scene.{field, RowAt, Rows}
-use Rattle.findings.specs.Prints.{print, keyOf, PrintOf}
+use Rattle.findings.specs.Prints.{keyOf, PrintOf}
 use Rattle.findings.specs.Parts.{printsOf, PrintPart, Ranked, KeyPrint, PrintedRow}
 use Rattle.findings.specs.PairPromises.{Printed}
 use Rattle.findings.proofs.PlaceLaws.{entry-below}
@@ -34,16 +34,6 @@ module _ (s : List ℕ) (from to : ℕ) where
       let a : length (drop from s) ≤ n - from = omega (arith, length-drop from s) in
       let b : length (drop from s) ≤ to - from = omega (arith, length-drop from s) in
       take-all (n - from) (drop from s) a ∙ sym (take-all (to - from) (drop from s) b)
-
--- one byte more
-module _ (a : List ℕ) (h i p : ℕ) (e : print p (drop i a) ≡ print h a) where
-  pub print-more : (p′ : ℕ) → i < length a → p′ ≡ (p * 31 + getD a i 0) % 2 ^ 32 → print p′ (drop (i + 1) a) ≡ print h a
-  unfolding print
-  print-more p′ l q = rw q (rw (drop-cons a i 0 l, ← add-one) at e)
-
-  pub print-done : length a ≤ i → p ≡ print h a
-  unfolding print
-  print-done l = rw (drop-of-length-le a l) at e
 
 -- of what is handed out
 pub print-as : (h : ℕ) (x y : List ℕ) {r : ℕ} → r ≡ print h x → x ≡ y → r ≡ print h y

@@ -14,10 +14,10 @@ use Rattle.reading.specs.Skip.{textAt}
 use Rattle.reading.proofs.Rules.{by}
 use Rattle.reading.proofs.Walks.{name-text}
 use Rattle.typing.specs.Names.{eqName}
+use Rattle.typing.specs.Lanes.{print}
 use Rattle.typing.proofs.NameLaws.{eqName-eq}
 use Rattle.reading.specs.Transition.{Transition}
 use Rattle.findings.specs.Scene.{field, RowAt}
-use Rattle.findings.specs.Prints.{print}
 use Rattle.findings.specs.PairPromises.{LeadsTo, LeadsOn}
 use Rattle.findings.specs.Reaching.{Taken, free, Queued, Stepped, stays, takes, Swept, Chained, first, next, Walked, BeginsAt}
 use Rattle.findings.proofs.TouchLaws.{last-or-before}

@@ -28,6 +28,7 @@ use Rattle.reading.proofs.ExprLaws.{name-laws}
 use Rattle.reading.proofs.Walks.{name-text}
 use Rattle.typing.specs.Names.{eqName, member}
 use Rattle.typing.specs.Table.{Past}
+use Rattle.typing.specs.Lanes.{print}
 use Rattle.typing.specs.declared.table.Found.{Found}
 use Rattle.typing.specs.declared.table.Found.the-variants.{At, Nothing}
 use Rattle.typing.proofs.NameLaws.{eqName-refl, eqName-eq}
@@ -39,7 +40,7 @@ use Rattle.findings.specs.Warnings.{startsAt, leadsTo, unreachable}
 use Rattle.findings.specs.Demand as demand
 use Rattle.findings.specs.Noting.{Noted}
 use Rattle.findings.specs.Scene.{Reads, field, Rows, StatesAt, states-here, states-none}
-use Rattle.findings.specs.Prints.{print, Prints}
+use Rattle.findings.specs.Prints.{Prints}
 use Rattle.findings.specs.Promises.{at-place}
 use Rattle.findings.specs.PairPromises.{LeadsOn}
 use Rattle.findings.specs.WarningPromises.{NotesUnreachable}

@@ -30,6 +30,7 @@ use Rattle.typing.specs.Names.{eqName, member, called, firstCalled}
 use Rattle.typing.specs.Patterns.{declaredName, patternVariantName}
 use Rattle.typing.specs.Table.{placeAfter, afterItem, afterHead, afterTag, Past}
 use Rattle.typing.specs.First.{FirstVariant}
+use Rattle.typing.specs.Lanes.{print}
 use Rattle.typing.specs.declared.table.Found.{Found}
 use Rattle.typing.specs.declared.table.Found.the-variants.{At, Nothing}
 use Rattle.typing.proofs.EnvLaws.{after-is, fields-head}
@@ -37,7 +38,6 @@ use Rattle.typing.proofs.FirstLaws.{found-no, found-yes}
 use Rattle.typing.proofs.NameLaws.{eqName-eq}
 use Rattle.findings.specs.Lists.{each}
 use Rattle.findings.specs.Scene.{Reads, field, Rows}
-use Rattle.findings.specs.Prints.{print}
 use Rattle.findings.specs.Classes.{Tabled}
 use Rattle.findings.specs.Uses.{variantNames, isBare, patternNames, patternBare, namedBy, bareBy, NamesAt, VariantsAt, variants-here, variants-none, AddsVariant, AddsUse, GroupPrint, NextMarked, UsesOf, IsNamed, HasVariant, IsUsed}
 use Rattle.findings.specs.declared.uses.Uses.{Uses}

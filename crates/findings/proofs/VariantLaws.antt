@@ -31,6 +31,7 @@ use Rattle.reading.proofs.ListViews.{list-at, rest-all, turn}
 use Rattle.reading.proofs.Walks.{name-text}
 use Rattle.typing.specs.Names.{eqName, member}
 use Rattle.typing.specs.Table.{Past}
+use Rattle.typing.specs.Lanes.{print}
 use Rattle.typing.specs.declared.table.Found.{Found}
 use Rattle.typing.specs.declared.table.Found.the-variants.{At, Nothing}
 use Rattle.typing.proofs.EnvLaws.{after-is}
@@ -39,7 +40,6 @@ use Rattle.findings.specs.Finding.{note, noted}
 use Rattle.findings.specs.Noting.{Noted}
 use Rattle.findings.specs.Errors.{unknownState}
 use Rattle.findings.specs.Scene.{Reads, StatesAt, states-here, states-none}
-use Rattle.findings.specs.Prints.{print}
 use Rattle.findings.specs.Variants.{VariantAt, Variants, NamesFilled, StatesFilled, StandsAt, IsVariant, Hinted}
 use Rattle.findings.specs.Promises.{NotesVariant}
 use Rattle.findings.proofs.PlaceLaws.{entry-at, entry-below, drop-entry}

@@ -12,8 +12,9 @@ use Rattle.reading.specs.Combine.{optional}
 use Rattle.reading.specs.Skip.{textAt}
 use Rattle.reading.specs.Views.{span}
 use Rattle.typing.specs.Names.{eqName}
+use Rattle.typing.specs.Lanes.{print}
 use Rattle.findings.specs.Scene.{field, Reads}
-use Rattle.findings.specs.Prints.{print, ranked}
+use Rattle.findings.specs.Prints.{ranked}
 
 abbrev pub Bytes : List ℕ → Type 0
 Bytes s = (i : ℕ) → getD s i 0 < 256

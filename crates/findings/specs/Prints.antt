@@ -2,17 +2,14 @@
 -- A transition's key is made of its state, its pattern and its priority, and nothing is noted of two whose keys differ.
 use Prim.Native.Nat.{ℕ, _+_, _*_, _%_, _^_}
 use mathlib.Core.Path.{_≡_}
-use mathlib.Core.List.{List, [], _∷_}
+use mathlib.Core.List.{List}
 use mathlib.Core.Bool.{Bool}
 use mathlib.Core.Option.{Option, none, some}
 use lib.Dec.{eqb}
 use lib.ListN.{getD, getElem?}
 use Rattle.reading.specs.Pattern.{encPattern}
 use Rattle.reading.specs.Transition.{Transition}
-
-unfoldable pub print : ℕ → List ℕ → ℕ
-print h [] = h
-print h (b ∷ bs) = print ((h * 31 + b) % 2 ^ 32) bs
+use Rattle.typing.specs.Lanes.{print}
 
 -- a print with a priority
 unfoldable pub ranked : Option ℕ → ℕ → ℕ

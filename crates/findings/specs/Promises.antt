@@ -21,18 +21,19 @@ use Rattle.typing.specs.Env.{Env, given, forModule, Agree}
 use Rattle.typing.specs.Typing.{typeExpr}
 use Rattle.typing.specs.Outputs.{validateOutputExpr}
 use Rattle.typing.specs.Formulas.{typeFormula, boundedAlwaysError}
-use Rattle.typing.specs.Table.{findIn, envAt}
+use Rattle.typing.specs.Table.{findFirst, findIn, envAt}
 use Rattle.typing.specs.Means.{typedOf, outcome}
 use Rattle.typing.specs.declared.cause.Typed.{Typed}
 use Rattle.typing.specs.declared.table.Found.{Found}
 use Rattle.findings.specs.Lists.{Placed, placed, each}
 use Rattle.findings.specs.Finding.{Note, note, noted, caused, blamed, typeCause}
 use Rattle.typing.specs.First.{enumName, GroupsAt}
+use Rattle.typing.specs.Lanes.{print}
 use Rattle.findings.specs.Mentions.{enumVariants, states}
 use Rattle.findings.specs.Errors.{unknownState, isEmpty, initialNotes, versionNotes, initNotes, opening, guardNotes, setNotes, emitNotes, bodyNotes, own, errorEmitNotes, onErrorNotes, propertyName, repeatNotes, formulaNotes}
 use Rattle.findings.specs.Noting.{Noted, numbered}
 use Rattle.findings.specs.Scene.{Bytes, Reads, RowAt, Rows, Scene, StatesAt}
-use Rattle.findings.specs.Prints.{print, PrintOf, Prints}
+use Rattle.findings.specs.Prints.{PrintOf, Prints}
 use Rattle.findings.specs.Variants.{Variants}
 
 -- an entry with its place
@@ -154,7 +155,7 @@ pub record ClaimsSet (s : List ℕ) (a b words : ℕ) (table : List ℕ) : Type 
 
 -- whether the name of number i stands under a smaller number too
 abbrev pub earlierIn : List ℕ → List ℕ → ℕ → Bool
-earlierIn s table i = given (findIn s (textAt s (getD table (2 * i) 0)) (take (2 * i) table))
+earlierIn s table i = given (findFirst s (textAt s (getD table (2 * i) 0)) table i)
 
 module _ (s : List ℕ) (owner : ℕ) (o : List ℕ) (skip n r : ℕ) (o′ : List ℕ) where
   -- site 18

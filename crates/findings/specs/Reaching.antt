@@ -13,12 +13,13 @@ use Rattle.reading.specs.Combine.{listOf}
 use Rattle.reading.specs.Transition.{Transition}
 use Rattle.reading.specs.Skip.{textAt}
 use Rattle.typing.specs.Names.{eqName}
+use Rattle.typing.specs.Lanes.{print}
 use Rattle.typing.specs.declared.table.Found.{Found}
 use Rattle.findings.specs.Lists.{Placed, placed, any, each}
 use Rattle.findings.specs.Finding.{Note, note, noted}
 use Rattle.findings.specs.Noting.{Noted}
 use Rattle.findings.specs.Scene.{Reads, RowAt, Rows, StatesAt}
-use Rattle.findings.specs.Prints.{print, PrintOf, Prints}
+use Rattle.findings.specs.Prints.{PrintOf, Prints}
 use Rattle.findings.specs.Promises.{at-place}
 
 abbrev pub Taken : List ℕ → ℕ → Type 0

@@ -21,10 +21,10 @@ use Rattle.typing.specs.declared.table.Found.the-variants.{At, Nothing}
 use Rattle.findings.specs.Lists.{Placed, placed, any, each}
 use Rattle.findings.specs.Finding.{Note, note, noted}
 use Rattle.typing.specs.First.{GroupsAt}
+use Rattle.typing.specs.Lanes.{print}
 use Rattle.findings.specs.Warnings.{deadIn, dead}
 use Rattle.findings.specs.Noting.{Noted}
 use Rattle.findings.specs.Scene.{Reads, field, Rows}
-use Rattle.findings.specs.Prints.{print}
 use Rattle.findings.specs.Promises.{at-place}
 use Rattle.findings.specs.declared.uses.Uses.{Uses}
 

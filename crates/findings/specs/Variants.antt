@@ -10,8 +10,8 @@ use Rattle.reading.specs.Text.{Name, readName}
 use Rattle.reading.specs.Combine.{listOf}
 use Rattle.reading.specs.Skip.{textAt}
 use Rattle.typing.specs.Names.{eqName, member}
+use Rattle.typing.specs.Lanes.{print}
 use Rattle.typing.specs.declared.table.Found.{Found}
-use Rattle.findings.specs.Prints.{print}
 use Rattle.findings.specs.Scene.{Reads, StatesAt}
 
 -- the words of the name number j, and those of each name

@@ -5,22 +5,29 @@ use crate::sheet::emit_if;
 use reading::text_at;
 use typing::Found;
 use typing::bounded_always_error;
-use typing::find;
 use typing::fit_number;
+use typing::lane_add;
+use typing::lane_find;
 use typing::type_formula;
 ghost use mathlib.Core.Path.{_≡_};
-ghost use Prim.Native.Nat.{_+_, _*_, _≤_, _^_};
+ghost use Prim.Native.Nat.{_+_, _≤_, _^_};
 ghost use lib.ListN.{length};
+ghost use Rattle.typing.specs.Lanes.{Lanes};
 ghost use Rattle.findings.specs.Promises.{earlierIn, NotesRepeats, NotesFormula, NotesFormulas};
 
-// Whether the name of number i stands under a smaller number too.
-fn stands_earlier<'a>(doc: &'a [u8], table: &'a [usize], i: usize) -> bool
-    requires { ⌜ 2 * i ≤ length (now table) ⌝ }
+// Whether the name of number i stands under a smaller number too, by the lanes of those.
+fn stands_earlier<'a>(
+    doc: &'a [u8],
+    table: &'a [usize],
+    i: usize,
+    heads: &'a [u16],
+    links: &'a [u16],
+) -> bool
+    requires { ⌜ Lanes (now doc) (now table) i (now heads) (now links) ⌝ }
     ensures { λ r. ⌜ r ≡ earlierIn (now (doc .entry)) (now (table .entry)) i ⌝ }
 {
-    let end = 2 * i;
-    let name = word(table, end);
-    let f = find(doc, &table[0..end], text_at(doc, name));
+    let name = word(table, 2 * i);
+    let f = lane_find(doc, table, i, heads, links, text_at(doc, name));
     match f {
         Found::At(_) => true,
         Found::Nothing => false,
@@ -41,12 +48,15 @@ pub(crate) fn note_repeats<'a>(
     ensures { λ r. ⌜ NotesRepeats (now (doc .entry)) owner (now (out .entry)) skip n r (now (out .exit)) (now (table .entry)) ⌝ }
     ensures { λ r. ⌜ r ≤ n + 510 ⌝ }
 {
+    let mut heads = [0u16; 1024];
+    let mut links = [0u16; 510];
     let many = table.len() / 2;
     let mut r = n;
     let mut i: usize = 0;
     while i < many {
-        let earlier = stands_earlier(doc, table, i);
+        let earlier = stands_earlier(doc, table, i, &heads, &links);
         r = emit_if(earlier, out, skip, r, owner, 18, i as u32, 0);
+        lane_add(doc, table, i, &mut heads, &mut links);
         i += 1;
     }
     r

@@ -2,15 +2,17 @@
 use crate::priority::rank;
 use crate::rows::field;
 use reading::text_at;
+use typing::print_bytes;
 ghost use mathlib.Core.Path.{_≡_};
 ghost use mathlib.Core.List.{[], _∷_};
-ghost use Prim.Native.Nat.{_+_, _*_, _%_, _^_, _≤_};
+ghost use Prim.Native.Nat.{_*_, _≤_};
 ghost use lib.ListN.{length};
 ghost use lib.Seq.{sets};
 ghost use Rattle.reading.specs.Skip.{textAt};
 ghost use Rattle.reading.specs.Views.{span};
+ghost use Rattle.typing.specs.Lanes.{print};
 ghost use Rattle.findings.specs.Scene.{field};
-ghost use Rattle.findings.specs.Prints.{print, printAt};
+ghost use Rattle.findings.specs.Prints.{printAt};
 ghost use Rattle.findings.specs.Parts.{PrintPart, KeyPrint, PrintedRow};
 ghost use Rattle.findings.specs.PairPromises.{Printed};
 
@@ -29,27 +31,6 @@ pub(crate) fn part(doc: &[u8], from: usize, to: usize) -> &[u8]
         return &doc[from..len];
     }
     &doc[from..to]
-}
-
-// The print after one byte more.
-fn next_print(h: u32, b: u8) -> u32
-    ensures { λ r. ⌜ r ≡ (h * 31 + b) % 2 ^ 32 ⌝ }
-{
-    let n = (h as u64) * 31 + b as u64;
-    (n % 4294967296) as u32
-}
-
-// The print of bytes after h.
-pub(crate) fn print_bytes(bytes: &[u8], h: u32) -> u32
-    ensures { λ r. ⌜ r ≡ print h (now (bytes .entry)) ⌝ }
-{
-    let mut p = h;
-    let mut i: usize = 0;
-    while i < bytes.len() {
-        p = next_print(p, bytes[i]);
-        i += 1;
-    }
-    p
 }
 
 // The print of a part of the document after h.

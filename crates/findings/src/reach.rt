@@ -1,5 +1,4 @@
 // State variants that no chain of transitions leads to: site 21.
-use crate::prints::print_bytes;
 use crate::rows::field;
 use crate::sheet::emit_if;
 use crate::touch::is_free;
@@ -10,6 +9,7 @@ use reading::text_at;
 use typing::Found;
 use typing::after;
 use typing::null_at;
+use typing::print_bytes;
 use typing::same_name;
 ghost use Prim.Native.Nat.{_+_, _<_, _≤_, _^_};
 ghost use lib.ListN.{length};

@@ -1,5 +1,4 @@
 // Variants of a group of events that patterns use.
-use crate::prints::print_bytes;
 use crate::rows::field;
 use crate::rows::word;
 use reading::text_at;
@@ -9,6 +8,7 @@ use typing::after_head;
 use typing::after_tag;
 use typing::first_variant;
 use typing::null_at;
+use typing::print_bytes;
 use typing::same;
 use typing::store;
 ghost use mathlib.Core.Path.{_≡_};

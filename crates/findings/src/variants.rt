@@ -1,12 +1,12 @@
 // The table of the State variants, two words each: the print of a name and its place. A name is looked up by its print, and by its bytes
 // only where the prints are equal; first where a hint says, which is the number of a name whose print has the same remainder.
-use crate::prints::print_bytes;
 use crate::sheet::emit_if;
 use reading::Answer;
 use reading::Cursor;
 use reading::text_at;
 use typing::Found;
 use typing::after;
+use typing::print_bytes;
 use typing::same_name;
 ghost use mathlib.Core.Path.{_≡_};
 ghost use mathlib.Core.List.{[], _∷_};
@@ -14,7 +14,7 @@ ghost use Prim.Native.Nat.{_+_, _*_, _<_, _≤_, _^_};
 ghost use lib.ListN.{length};
 ghost use lib.Seq.{sets};
 ghost use Rattle.reading.specs.Skip.{textAt};
-ghost use Rattle.findings.specs.Prints.{print};
+ghost use Rattle.typing.specs.Lanes.{print};
 ghost use Rattle.findings.specs.Variants.{StandsAt, Hinted, IsVariant, NamesFilled, StatesFilled};
 ghost use Rattle.findings.specs.Promises.{NotesVariant};
 

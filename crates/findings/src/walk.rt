@@ -2,15 +2,15 @@
 use crate::links::link_all;
 use crate::links::next_free;
 use crate::pairs::leads_to;
-use crate::prints::print_bytes;
 use crate::prints::print_word;
 use crate::rows::field;
 use reading::text_at;
+use typing::print_bytes;
 use typing::same;
 ghost use mathlib.Core.Path.{_≡_};
 ghost use Prim.Native.Nat.{_+_, _<_, _≤_};
 ghost use lib.ListN.{length, set};
-ghost use Rattle.findings.specs.Prints.{print};
+ghost use Rattle.typing.specs.Lanes.{print};
 ghost use Rattle.findings.specs.PairPromises.{LeadsOn};
 ghost use Rattle.findings.specs.Reaching.{Queued, Stepped, Swept, Walked, BeginsAt};
 ghost use Rattle.findings.specs.Links.{leadOf, Links, Ahead, Heads};

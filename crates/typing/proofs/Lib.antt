@@ -7,6 +7,7 @@ pub mod RuleLaws
 pub mod QuickLaws
 pub mod ShortLaws
 pub mod TableLaws
+pub mod LaneLaws
 pub mod PathLaws
 pub mod TypeLaws
 pub mod ShapeLaws
@@ -27,7 +28,6 @@ pub mod ArgLaws
 pub mod EmitLaws
 pub mod ClashLaws
 pub mod EqualityLaws
-pub mod LaneLaws
 pub mod SeenLaws
 pub mod GuardLaws
 pub mod NumberLaws

@@ -3,7 +3,7 @@ use Prim.Native.Nat.{ℕ, zero, suc, _+_, _-_, _*_, _/_, _<_, _≤_}
 use mathlib.Core.Path.{_≡_, refl, sym, ap, _∙_}
 use mathlib.Core.Bool.{Bool, true, false}
 use mathlib.Core.List.{List}
-use mathlib.Core.Option.{some}
+use mathlib.Core.Option.{Option, some}
 use native.Mathlib.Omega.{arith}
 use native.Mathlib.Numerals.{add-one}
 use lib.ListN.{length, getD, set, length-set}
@@ -70,24 +70,24 @@ unfolding stands placeAfter
 after-out (ok a n) e q = no (cc)
 after-out (refused f p) e q = cc
 
--- a table, from its last pair on
-module _ (s : List ℕ) (n : Name) (table : List ℕ) (i : ℕ) (r : findFirst s n table i ≡ findIn s n table) where
-  pub find-none : i ≤ 0 → Nothing ≡ found (findIn s n table)
+-- o stands under a name in the first i pairs of a table, from the last of them on
+module _ (s : List ℕ) (n : Name) (table : List ℕ) (i : ℕ) {o : Option ℕ} (r : findFirst s n table i ≡ o) where
+  pub find-none : i ≤ 0 → Nothing ≡ found o
   unfolding findFirst found
   find-none h = let z : i ≡ 0 = omega arith in ap found (sym (ap (findFirst s n table) z) ∙ r)
 
   module _ (h : 0 < i) {b : Bool} {key : Name} (e : b ≡ eqName key n) (t : key ≡ textAt s (getD table (2 * (i - 1)) 0)) where
-    last-pair : findIn s n table ≡ pick b (some (getD table (2 * (i - 1) + 1) 0)) (findFirst s n table (i - 1))
+    last-pair : o ≡ pick b (some (getD table (2 * (i - 1) + 1) 0)) (findFirst s n table (i - 1))
     unfolding findFirst
     last-pair =
         let k : i ≡ suc (i - 1) = omega arith in
         sym r ∙ ap (findFirst s n table) k ∙ rw (sym t, sym e)
 
-    pub find-hit : b ≡ true → At (getD table (2 * (i - 1) + 1) 0) ≡ found (findIn s n table)
+    pub find-hit : b ≡ true → At (getD table (2 * (i - 1) + 1) 0) ≡ found o
     unfolding found pick
     find-hit q = rw (last-pair, q)
 
-    pub find-miss : b ≡ false → findFirst s n table (i - 1) ≡ findIn s n table
+    pub find-miss : b ≡ false → findFirst s n table (i - 1) ≡ o
     unfolding pick
     find-miss q = rw (last-pair, q)
 

@@ -4,10 +4,10 @@ use mathlib.Core.Path.{_≡_, refl}
 use native.Mathlib.Omega.{arith}
 use borrow.Author.Needs.{needs}
 use lib.ListN.{length, drop}
-use Rattle.findings.specs.Prints.{print}
-use Rattle.findings.proofs.PrintLaws.{print-more, print-done}
-use Rattle.findings.proofs.prints.print_bytes.Statement.{statement}
-use Rattle.findings.proofs.prints.print_bytes.Tie as tie
+use Rattle.typing.specs.Lanes.{print}
+use Rattle.typing.proofs.LaneLaws.{print-more, print-done}
+use Rattle.typing.proofs.lanes.print_bytes.Statement.{statement}
+use Rattle.typing.proofs.lanes.print_bytes.Tie as tie
 
 abbrev Inv-loop : tie.InvT-loop
 Inv-loop bytes h p₀ i₀ p i = print p (drop i bytes) ≡ print h bytes

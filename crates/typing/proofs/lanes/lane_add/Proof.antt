@@ -1,0 +1,28 @@
+-- The pair is put before those of its lane.
+use native.Mathlib.Omega.{arith}
+use borrow.Author.Needs.{needs}
+use lib.ListN.{length-set}
+use Rattle.typing.proofs.LaneLaws.{lane-room, lanes-more}
+use Rattle.typing.proofs.lanes.lane_add.Statement.{statement}
+use Rattle.typing.proofs.lanes.lane_add.Tie as tie
+
+pub lane-add-spec : {M : Type 1} → statement M
+lane-add-spec =
+    tie.close
+    (tie.spec
+    (λ c. omega arith)
+    (λ c. omega arith)
+    (λ c. omega arith)
+    (λ c κs. search needs)
+    (λ c κs. search needs)
+    (λ c. omega arith)
+    (λ c. search lane-room)
+    (λ c. omega arith)
+    (λ c. omega arith)
+    (λ c. omega arith)
+    (λ c. omega arith)
+    (λ c. omega arith)
+    (λ c. search lane-room)
+    (λ c. search length-set)
+    (λ c. search length-set)
+    (λ c. (search lanes-more, search length-set)))
