@@ -49,12 +49,12 @@ pub(crate) fn sees_bindings(kind: u64) -> bool {
     }
 }
 
-// The item of the kind at a place, by the groups of outputs at another, the names it sees and the enums.
+// The item of the kind at a place, by the tables of the groups of outputs, the names it sees and the enums.
 pub(crate) fn number_of<'a>(
     doc: &'a [u8],
     kind: u64,
     at: usize,
-    outputs: usize,
+    outputs: &'a [usize],
     names: &'a [usize],
     enums: &'a [usize],
 ) -> u32 {

@@ -15,8 +15,8 @@ struct Step {
     at: usize,
 }
 
-// Where the groups of events and of outputs stand; how many words of the tables are filled with enums, with variables,
-// and with variables and bindings; and the number that was given last.
+// How many words of the tables are filled with groups of events, with groups of outputs, with enums, with variables, and with
+// variables and bindings; and the number that was given last.
 struct State {
     events: usize,
     outputs: usize,
@@ -70,7 +70,15 @@ fn with_vars(t: State, words: usize) -> State {
 }
 
 // One of a module's lists.
-fn set_up(doc: &[u8], s: Step, names: &mut [usize], enums: &mut [usize], t: State) -> State {
+fn set_up(
+    doc: &[u8],
+    s: Step,
+    names: &mut [usize],
+    enums: &mut [usize],
+    events: &mut [usize],
+    outputs: &mut [usize],
+    t: State,
+) -> State {
     let kind = s.kind;
     let at = s.at;
     if kind == 0 {
@@ -81,10 +89,10 @@ fn set_up(doc: &[u8], s: Step, names: &mut [usize], enums: &mut [usize], t: Stat
     }
     let mut out = t;
     if kind == 2 {
-        out.events = at;
+        out.events = typing::fill_table(doc, at, events);
         return out;
     }
-    out.outputs = at;
+    out.outputs = typing::fill_table(doc, at, outputs);
     out
 }
 
@@ -100,10 +108,16 @@ fn together(a: usize, b: usize) -> usize {
 }
 
 // A pattern: its bindings stand after the variables.
-fn bind(doc: &[u8], s: Step, names: &mut [usize], t: State) -> State {
-    let b = typing::validate_event_pattern(doc, s.at, t.events, names, t.vars);
-    let blame = b.blame;
+fn bind(doc: &[u8], s: Step, names: &mut [usize], events: &[usize], t: State) -> State {
     let mut out = t;
+    let start = 0;
+    let e = t.events;
+    if events.len() < e {
+        out.given = 255;
+        return out;
+    }
+    let b = typing::validate_event_pattern(doc, s.at, &events[start..e], names, t.vars);
+    let blame = b.blame;
     out.bound = together(t.vars, b.words);
     out.given = typing::blame_number(doc, blame);
     out
@@ -118,7 +132,14 @@ fn seen(kind: u64, t: State) -> usize {
 }
 
 // Any other item, with the names it sees; 255 where the tables have too few words.
-fn ask<'a>(doc: &'a [u8], s: Step, names: &'a [usize], enums: &'a [usize], t: State) -> u32 {
+fn ask<'a>(
+    doc: &'a [u8],
+    s: Step,
+    names: &'a [usize],
+    enums: &'a [usize],
+    outputs: &'a [usize],
+    t: State,
+) -> u32 {
     let kind = s.kind;
     let start = 0;
     let n = seen(kind, t);
@@ -129,25 +150,37 @@ fn ask<'a>(doc: &'a [u8], s: Step, names: &'a [usize], enums: &'a [usize], t: St
     if enums.len() < e {
         return 255;
     }
+    let o = t.outputs;
+    if outputs.len() < o {
+        return 255;
+    }
     number_of(
         doc,
         kind,
         s.at,
-        t.outputs,
+        &outputs[start..o],
         &names[start..n],
         &enums[start..e],
     )
 }
 
-fn advance(doc: &[u8], s: Step, names: &mut [usize], enums: &mut [usize], t: State) -> State {
+fn advance(
+    doc: &[u8],
+    s: Step,
+    names: &mut [usize],
+    enums: &mut [usize],
+    events: &mut [usize],
+    outputs: &mut [usize],
+    t: State,
+) -> State {
     if s.kind < 4 {
-        return set_up(doc, s, names, enums, t);
+        return set_up(doc, s, names, enums, events, outputs, t);
     }
     if s.kind == 5 {
-        return bind(doc, s, names, t);
+        return bind(doc, s, names, events, t);
     }
     let mut out = t;
-    out.given = ask(doc, s, names, enums, t);
+    out.given = ask(doc, s, names, enums, outputs, t);
     out
 }
 
@@ -177,6 +210,8 @@ fn replay_with(
     steps: &[u8],
     names: &mut [usize],
     enums: &mut [usize],
+    events: &mut [usize],
+    outputs: &mut [usize],
     tally: Tally,
 ) -> Tally {
     let mut t = tally;
@@ -186,7 +221,7 @@ fn replay_with(
         let at = 4 * i;
         i += 1;
         let s = step_of(word_at(steps, at));
-        state = advance(doc, s, names, enums, state);
+        state = advance(doc, s, names, enums, events, outputs, state);
         t = note(t, s, state.given);
     }
     t
@@ -196,5 +231,15 @@ fn replay_with(
 pub(crate) fn replay_steps(doc: &[u8], steps: &[u8], tally: Tally) -> Tally {
     let mut names = [0usize; 1024];
     let mut enums = [0usize; 512];
-    replay_with(doc, steps, &mut names, &mut enums, document(tally))
+    let mut events = [0usize; 512];
+    let mut outputs = [0usize; 512];
+    replay_with(
+        doc,
+        steps,
+        &mut names,
+        &mut enums,
+        &mut events,
+        &mut outputs,
+        document(tally),
+    )
 }

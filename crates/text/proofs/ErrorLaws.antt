@@ -26,7 +26,7 @@ use Rattle.typing.specs.declared.table.Found.{Found}
 use Rattle.typing.specs.declared.table.Found.the-variants as found
 use Rattle.typing.proofs.Agreement.{output-agree}
 use Rattle.typing.proofs.EnvLaws.{after-is, fields-head}
-use Rattle.findings.specs.Scene.{Reads, Scene}
+use Rattle.findings.specs.Scene.{Reads, outputsIn, Scene}
 use Rattle.findings.proofs.RowLaws.{moved}
 use Rattle.text.specs.Message.{Saying, ofEntry, ofErrorNext, ofErrorEmit, errorNextSaid, errorEmitSaid}
 use Rattle.text.specs.Said.{shown}
@@ -77,12 +77,11 @@ module _ (s places names enums : List ℕ) {at : ℕ} {t : Bool} (k : at ≡ get
       of = λ m g. present-said readOnError s at (moved k (g .0 .on-error-is)) e (emitOf i m) z λ x u. missing-said (emitted u) (ofErrorEmit m) q;
     }
 
-    pub error-emit-said : {a here outputs : ℕ} {w : Blame} {r : Said} → f ≡ found.At here → a ≡ getD places 0 0 → outputs ≡ getD places 6 0 → JudgesOutput (envAt s names enums) s here outputs w → r ≡ Line (Name a) Blank Blank Blank Blank w → Says (WithNames s places names enums) s (errorEmitSaid i) r
+    pub error-emit-said : {a here : ℕ} {outputs : List ℕ} {w : Blame} {r : Said} → f ≡ found.At here → a ≡ getD places 0 0 → outputs ≡ outputsIn places → JudgesOutput (envAt s names enums) s here outputs w → r ≡ Line (Name a) Blank Blank Blank Blank w → Says (WithNames s places names enums) s (errorEmitSaid i) r
     unfolding shown
     error-emit-said {w = w} q l n b c = record {
       of = λ m g. present-said readOnError s at (moved k (g .0 .on-error-is)) e (emitOf i m) z λ x u.
           entry-said (emitted u) (ofErrorEmit m) q λ o v.
-          let y = moved n (g .0 .outputs-are) in
-          let d : blameOf s w ≡ validateOutputExpr (m .outputs) (forModule m) o = b .of (m .outputs) (y .end) o (v .end) (y .is) (v .is) ∙ output-agree (g .1) (m .outputs) o in
+          let d : blameOf s w ≡ validateOutputExpr (m .outputs) (forModule m) o = b .of (m .outputs) o (v .end) (rw n (g .0 .output-groups)) (v .is) ∙ output-agree (g .1) (m .outputs) o in
           two-said s places m (g .0) l c refl d;
     }

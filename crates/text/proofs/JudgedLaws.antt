@@ -14,7 +14,7 @@ use Rattle.typing.specs.Table.{envAt}
 use Rattle.typing.specs.Blames.{Bound, Spares, JudgesPattern}
 use Rattle.typing.specs.declared.cause.Bindings.{Bindings}
 use Rattle.typing.proofs.EnvLaws.{bindings-agree}
-use Rattle.findings.specs.Scene.{RowAt, Scene, field}
+use Rattle.findings.specs.Scene.{RowAt, eventsIn, Scene, field}
 use Rattle.text.specs.Message.{inside}
 use Rattle.text.specs.Says.{SaysPattern, SaysGuard, SaysGuardType, SaysValue, SaysEmit, SaysInside, SaysJudged}
 use Rattle.text.specs.declared.said.Said.{Said}
@@ -44,11 +44,11 @@ module-bound : (s vars enums T : List ℕ) (k : ℕ) (bs : List Binding) (m : Mo
 unfolding forModule
 module-bound s vars enums T k bs m l b y = bindings-agree s vars enums T k bs (forModule m) l b y refl
 
-module _ (s places rows : List ℕ) (i : ℕ) (table : List ℕ) (vars : ℕ) (enums : List ℕ) (site j : ℕ) {p : Bindings} {table′ : List ℕ} (g : JudgesPattern s (field rows i 2) (getD places 5 0) table (2 * vars) p table′) where
+module _ (s places rows : List ℕ) (i : ℕ) (table : List ℕ) (vars : ℕ) (enums : List ℕ) (site j : ℕ) {p : Bindings} {table′ : List ℕ} (g : JudgesPattern s (field rows i 2) (eventsIn places) table (2 * vars) p table′) where
   pub judged-pattern : {r : Said} → site ≡ 8 → SaysPattern s places i (p .blame) r → SaysJudged s places rows i (take (2 * vars) table) enums site j r
   judged-pattern q f = record {
     pattern = λ e m t c w y.
-        let b = g .of (m .events) (c .events-are .end) (t .pattern) (field rows i 3) (c .events-are .is) (w .pattern-is) in
+        let b = g .of (m .events) (t .pattern) (field rows i 3) (c .event-groups) (w .pattern-is) in
         f .of m t c (b .fault);
     guard = λ e. no (cc);
     guard-type = λ e. no (cc);
@@ -62,7 +62,7 @@ module _ (s places rows : List ℕ) (i : ℕ) (table : List ℕ) (vars : ℕ) (e
     unfolding inside
     names-inside m t c w y =
         let q = validateEventPattern (m .events) (t .pattern) in
-        let b = g .of (m .events) (c .events-are .end) (t .pattern) (field rows i 3) (c .events-are .is) (w .pattern-is) in
+        let b = g .of (m .events) (t .pattern) (field rows i 3) (c .event-groups) (w .pattern-is) in
         let l : 2 * vars + length (b .pairs) ≤ length table = omega (arith, b .many, spares .few) in
         let z : 2 * vars + p .words - 0 ≡ 2 * vars + length (b .pairs) = omega (arith, b .many) in
         let d : length (take (2 * vars) table) ≡ 2 * vars = length-take-le (2 * vars) table (omega arith) in

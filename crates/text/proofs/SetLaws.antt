@@ -4,8 +4,6 @@ use mathlib.Core.Path.{_≡_, refl, sym, ap, _∙_}
 use mathlib.Core.List.{List}
 use lib.ListN.{getD, getElem?}
 use Rattle.reading.specs.Limits.{maxDepth, maxList}
-use Rattle.reading.specs.Combine.{listOf}
-use Rattle.reading.specs.Decl.{readConstructorGroup}
 use Rattle.reading.specs.Text.{readName}
 use Rattle.reading.specs.Transition.{Assignment, Transition, readTopExpr, readAssignment, readOutputExpr}
 use Rattle.reading.proofs.ExprLaws.{name-laws}
@@ -22,7 +20,7 @@ use Rattle.typing.specs.declared.table.Found.{Found}
 use Rattle.typing.specs.declared.table.Found.the-variants as found
 use Rattle.typing.proofs.Agreement.{output-agree}
 use Rattle.typing.proofs.EnvLaws.{after-is, fields-head}
-use Rattle.findings.specs.Scene.{Reads, RowAt, field}
+use Rattle.findings.specs.Scene.{Reads, RowAt, outputsIn, field}
 use Rattle.text.specs.Message.{ofGiven}
 use Rattle.text.specs.Said.{shown, sayingOf}
 use Rattle.text.specs.Says.{Entry, Picked, Untyped, SaysSet, SaysValue, SaysEmit}
@@ -84,11 +82,10 @@ module _ (s places rows : List ℕ) (i : ℕ) where
     unfolding ofGiven sayingOf
     emit-none q = record { of = λ m t y w n. rw (entry-nothing (emit-entry w) q) }
 
-    pub emit-said : {k outputs a : ℕ} {b : Blame} {r : Said} → f ≡ found.At k → outputs ≡ getD places 6 0 → JudgesOutput (envAt s names enums) s k outputs b → a ≡ getD places 0 0 → r ≡ Line (Name a) (Number i) Blank Blank Blank b → SaysEmit s places rows i names enums j r
+    pub emit-said : {k a : ℕ} {outputs : List ℕ} {b : Blame} {r : Said} → f ≡ found.At k → outputs ≡ outputsIn places → JudgesOutput (envAt s names enums) s k outputs b → a ≡ getD places 0 0 → r ≡ Line (Name a) (Number i) Blank Blank Blank b → SaysEmit s places rows i names enums j r
     unfolding ofGiven shown
-    emit-said {outputs = outputs} q x e g l = record {
+    emit-said q x e g l = record {
       of = λ m t y w n.
           let v = entry-given (emit-entry w) q in
-          let o : Reads (listOf maxList readConstructorGroup) s outputs (m .outputs) = reads-there x (y .outputs-are .is) in
-          line-says s l (module-shown s g y) refl refl refl refl (e .of (m .outputs) (o .end) (v .item) (v .reads .end) (o .is) (v .reads .is) ∙ output-agree n (m .outputs) (v .item)) ∙ ap (ofGiven _) (sym (v .is));
+          line-says s l (module-shown s g y) refl refl refl refl (e .of (m .outputs) (v .item) (v .reads .end) (rw x (y .output-groups)) (v .reads .is) ∙ output-agree n (m .outputs) (v .item)) ∙ ap (ofGiven _) (sym (v .is));
     }

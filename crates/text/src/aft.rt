@@ -4,6 +4,7 @@ use crate::entry::entry_at;
 use crate::said::Arg;
 use crate::said::Said;
 use crate::said::two;
+use findings::outputs_of;
 use findings::word;
 use typing::Blame;
 use typing::Found;
@@ -51,7 +52,7 @@ pub(crate) fn say_error_emit<'a>(
     let Found::At(k) = f else {
         return Said::Nothing;
     };
-    let w = validate_output_expr(doc, k, word(places, 6), names, enums);
+    let w = validate_output_expr(doc, k, outputs_of(places), names, enums);
     two(Arg::Name(word(places, 0)), Arg::Blank, w)
 }
 

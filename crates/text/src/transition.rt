@@ -6,8 +6,9 @@ use crate::said::Said;
 use crate::said::three;
 use crate::said::two;
 use findings::field;
+use findings::judge_pattern;
+use findings::outputs_of;
 use findings::word;
-use typing::Bindings;
 use typing::Blame;
 use typing::Found;
 use typing::Typed;
@@ -15,13 +16,10 @@ use typing::after;
 use typing::after_head;
 use typing::null_at;
 use typing::type_expr;
-use typing::validate_event_pattern;
 use typing::validate_output_expr;
 ghost use mathlib.Core.Path.{_≡_};
 ghost use Prim.Native.Nat.{_*_, _≤_};
-ghost use lib.ListN.{length, getD, take};
-ghost use Rattle.typing.specs.Blames.{Spares, JudgesPattern};
-ghost use Rattle.findings.specs.Scene.{field};
+ghost use lib.ListN.{length, take};
 ghost use Rattle.text.specs.Says.{SaysState, SaysNext, SaysPattern, SaysGuard, SaysGuardType, SaysSet, SaysValue, SaysEmit, SaysInside, SaysJudged};
 
 // Site 6: of the state that transition i starts at.
@@ -163,7 +161,7 @@ pub(crate) fn say_emit<'a>(
     let Found::At(k) = f else {
         return Said::Nothing;
     };
-    let w = validate_output_expr(doc, k, word(places, 6), names, enums);
+    let w = validate_output_expr(doc, k, outputs_of(places), names, enums);
     two(Arg::Name(word(places, 0)), Arg::Number(i as u64), w)
 }
 
@@ -193,23 +191,6 @@ pub(crate) fn say_pattern<'a>(doc: &'a [u8], places: &'a [usize], i: u8, w: Blam
     ensures { λ r. ⌜ SaysPattern (now (doc .entry)) (now (places .entry)) i w r ⌝ }
 {
     two(Arg::Name(word(places, 0)), Arg::Number(i as u64), w)
-}
-
-// The pattern of transition i, by the module's groups of events; its bindings go into the table from word k on.
-pub(crate) fn judge_pattern<'a>(
-    doc: &'a [u8],
-    places: &'a [usize],
-    rows: &'a [usize],
-    i: u8,
-    table: &mut [usize],
-    k: usize,
-) -> Bindings
-    ensures { λ r. ⌜ JudgesPattern (now (doc .entry)) (field (now (rows .entry)) i 2) (getD (now (places .entry)) 5 0) (now (table .entry)) k r (now (table .exit)) ⌝ }
-    ensures { λ r. ⌜ Spares (now (table .entry)) k r (now (table .exit)) ⌝ }
-{
-    let at = field(rows, i, 2);
-    let events = word(places, 5);
-    validate_event_pattern(doc, at, events, table, k)
 }
 
 // Sites 8, 9, 10, 12 and 13, of transition i. The table has two words for each of the module's variables; those of the pattern's
