@@ -108,7 +108,7 @@ fn together(a: usize, b: usize) -> usize {
 }
 
 // A pattern: its bindings stand after the variables.
-fn bind(doc: &[u8], s: Step, names: &mut [usize], events: &[usize], t: State) -> State {
+fn bind<'a>(doc: &'a [u8], s: Step, names: &mut [usize], events: &'a [usize], t: State) -> State {
     let mut out = t;
     let start = 0;
     let e = t.events;
