@@ -52,22 +52,48 @@ fn put_warnings(doc: &[u8], kept: &[u32], errors: usize, warnings: usize, out: &
     copy_words(kept, len, out, 5 * errors);
 }
 
-// All findings, where the words suffice.
-pub(crate) fn reply(doc: &[u8], out: &mut [u32]) -> Reply
+// All findings, where the words suffice: one walk keeps as many errors and warnings as two buffers have room for.
+fn reply_by(doc: &[u8], first: &mut [u32], second: &mut [u32], out: &mut [u32]) -> Reply
     ensures { λ r. ⌜ Replies (now (doc .entry)) (now (out .entry)) r (now (out .exit)) ⌝ }
 {
-    let mut first = [0u32; 640];
-    let mut second = [0u32; 640];
-    let totals = walk_all(doc, &mut first, 0, 0, &mut second, 0, 0);
+    let totals = walk_all(doc, first, 0, 0, second, 0, 0);
     let errors = totals.errors;
     let warnings = totals.warnings;
     let all = errors + warnings;
     if out.len() < 5 * all {
         return Reply::Short(all);
     }
-    put_errors(doc, &first, errors, out);
-    put_warnings(doc, &second, errors, warnings, out);
+    put_errors(doc, first, errors, out);
+    put_warnings(doc, second, errors, warnings, out);
     Reply::Counts(errors, warnings)
+}
+
+// With room for 128 of each.
+fn reply_short(doc: &[u8], out: &mut [u32]) -> Reply
+    ensures { λ r. ⌜ Replies (now (doc .entry)) (now (out .entry)) r (now (out .exit)) ⌝ }
+{
+    let mut first = [0u32; 640];
+    let mut second = [0u32; 640];
+    reply_by(doc, &mut first, &mut second, out)
+}
+
+// With room for 819 of each.
+fn reply_long(doc: &[u8], out: &mut [u32]) -> Reply
+    ensures { λ r. ⌜ Replies (now (doc .entry)) (now (out .entry)) r (now (out .exit)) ⌝ }
+{
+    let mut first = [0u32; 4095];
+    let mut second = [0u32; 4095];
+    reply_by(doc, &mut first, &mut second, out)
+}
+
+// All findings, where the words suffice: a long document gets more room, so that few have to be walked twice.
+pub(crate) fn reply(doc: &[u8], out: &mut [u32]) -> Reply
+    ensures { λ r. ⌜ Replies (now (doc .entry)) (now (out .entry)) r (now (out .exit)) ⌝ }
+{
+    if doc.len() < 8192 {
+        return reply_short(doc, out);
+    }
+    reply_long(doc, out)
 }
 
 // Finding number k, where it is a warning: so many errors come before the warnings.
