@@ -43,6 +43,7 @@ use reading::read_document;
 pub use reply::Line;
 pub use reply::Reply;
 pub use rows::Listed;
+pub use rows::events_of;
 pub use rows::field;
 pub use rows::outputs_of;
 pub use rows::word;

@@ -53,7 +53,7 @@ fn groups_in(places: &[usize], from: usize, words: usize) -> &[usize]
 }
 
 // A module's groups of events.
-pub(crate) fn events_of(places: &[usize]) -> &[usize]
+pub fn events_of(places: &[usize]) -> &[usize]
     ensures { λ r. ⌜ now r ≡ eventsIn (now (places .entry)) ⌝ }
     ensures { λ r. ⌜ length (now r) ≤ 510 ⌝ }
 {

@@ -1,31 +1,32 @@
 -- What is said of State variants, and of the variants of event groups.
-use Prim.Native.Nat.{ℕ, zero, suc}
-use mathlib.Core.Path.{_≡_, refl, ap, _∙_}
+use Prim.Native.Nat.{ℕ, zero, suc, _+_, _*_, _/_, _<_, _≤_}
+use mathlib.Core.Path.{_≡_, refl, sym, ap, _∙_}
 use mathlib.Core.List.{List, [], _∷_, map}
 use mathlib.Core.Option.{Option, none, some}
-use lib.ListN.{getD, getElem?}
+use native.Mathlib.Omega.{arith}
+use lib.ListN.{length, getD, getElem?}
 use Rattle.reading.specs.Limits.{maxList}
 use Rattle.reading.specs.Text.{Name, readName}
 use Rattle.reading.specs.Combine.{listOf}
-use Rattle.reading.specs.Decl.{ConstructorVariant, ConstructorGroup, readNames, readConstructorVariant, readConstructorGroup}
+use Rattle.reading.specs.Decl.{ConstructorVariant, ConstructorGroup, readNames, readConstructorVariant}
 use Rattle.reading.specs.Module.{Module}
 use Rattle.reading.specs.Skip.{textAt}
 use Rattle.reading.specs.Views.{ConstructorVariantAt, unit-variant, struct-variant}
 use Rattle.reading.proofs.Rules.{no}
 use Rattle.reading.proofs.ExprLaws.{name-laws}
-use Rattle.reading.proofs.DeclLaws.{constructor-variant-laws, constructor-group-laws}
-use Rattle.reading.proofs.Views.{constructor-group-at}
+use Rattle.reading.proofs.DeclLaws.{constructor-variant-laws}
 use Rattle.reading.proofs.CaseViews.{constructor-variant-at}
 use Rattle.reading.proofs.Walks.{name-text}
 use Rattle.typing.specs.Patterns.{declaredName}
-use Rattle.typing.specs.Table.{placeAfter, afterItem, afterHead, afterTag, Past}
+use Rattle.typing.specs.Table.{placeAfter, afterTag}
 use Rattle.typing.specs.declared.cause.Blame.the-variants as blame
 use Rattle.typing.specs.declared.table.Found.{Found}
 use Rattle.typing.specs.declared.table.Found.the-variants as found
-use Rattle.typing.proofs.EnvLaws.{after-is, fields-head}
-use Rattle.findings.specs.Scene.{Reads, Scene, StatesAt, states-here, states-none}
+use Rattle.typing.proofs.GroupLaws.{get-some}
+use Rattle.findings.specs.Scene.{Reads, eventsIn, Scene, StatesAt, states-here, states-none}
 use Rattle.findings.specs.Mentions.{groupVariants}
 use Rattle.findings.proofs.RowLaws.{moved}
+use Rattle.findings.proofs.PlaceLaws.{entry-past}
 use Rattle.text.specs.Message.{Saying, ofGiven, ofEntry, ofName, variantSaid, eventSaid}
 use Rattle.text.specs.Said.{sayingOf}
 use Rattle.text.specs.Says.{Entry, entry-here, entry-none, Picked, WithStates, variantsIn, VariantsOf, Says}
@@ -60,24 +61,20 @@ module _ (s places : List ℕ) {known : Found} where
     pub variant-said : {a k : ℕ} {r : Said} → f ≡ found.At k → a ≡ getD places 0 0 → r ≡ Line (NameAt a) (NameAt k) Blank Blank Blank blame.Nothing → Says (WithStates s places known) s (variantSaid i) r
     variant-said {k = k} q l z = record { of = λ m g. entry-said (variant-entry (g .1)) (ofName m) q λ n u. name-said s places m (g .0) l z (name-text s k n (u .end) (u .is)) }
 
--- the variants of an event group stand after its name
-module _ (s places : List ℕ) {p i : ℕ} {f : Found} (j : p ≡ getD places 5 0) (h : Picked maxList s p i f) where
-  group-entry : (m : Module) → Scene s places m → Entry readConstructorGroup s f (getElem? (m .events) i)
-  group-entry m g = entry-picked constructor-group-laws s h (moved j (g .events-are))
-
-  pub no-group : f ≡ found.Nothing → VariantsOf s places i found.Nothing
+-- the variants of an event group stand where the table says
+module _ (places : List ℕ) {i : ℕ} {groups : List ℕ} (e : groups ≡ eventsIn places) where
+  pub no-group : length groups / 2 ≤ i → VariantsOf places i found.Nothing
   unfolding variantsIn
-  no-group q = record { of = λ m g. rw (entry-nothing (group-entry m g) q) entry-none }
+  no-group h = record { of = λ s m g. let c = rw (sym e) at (g .event-groups) in rw (entry-past (m .events) i (omega (arith, c .room))) entry-none }
 
-  pub group-found : {k name v : ℕ} → f ≡ found.At k → name ≡ afterHead s k → Past s name v → VariantsOf s places i (found.At v)
+  pub group-found : i < length groups / 2 → VariantsOf places i (found.At (getD groups (2 * i + 1) 0))
   unfolding variantsIn
-  group-found {k} {name} {v} q l b = record {
-    of = λ m g.
-        let x = entry-given (group-entry m g) q in
-        let d = constructor-group-at s k (x .item) (x .reads .end) (x .reads .is) in
-        let y : name ≡ d .name = l ∙ fields-head 2 s k tt (d .name) (d .opens) in
-        let z : v ≡ d .variants = b .is ∙ ap (afterItem s) y ∙ after-is name-laws s (b .each) (d .name) (x .item .name) (d .variants) (d .name-is) in
-        rw (x .is) (entry-here (moved z (record { end = x .reads .end; is = d .variants-is })));
+  group-found h = record {
+    of = λ s m g.
+        let c = rw (sym e) at (g .event-groups) in
+        let x = get-some (m .events) i (omega (arith, c .room)) in
+        let y = c .variants-are i (x .0) (x .1) in
+        rw (x .1) (entry-here (record { end = y .0; is = y .1 }));
   }
 
 -- the name of a variant stands after its head
@@ -108,17 +105,17 @@ module _ (f : Name → Option Saying) where
 abbrev variantOf : ℕ → Module → List ConstructorVariant → Option Saying
 variantOf j m vs = ofEntry vs j (λ v. ofName m (declaredName v))
 
-module _ (s places : List ℕ) {i : ℕ} {group : Found} (c : VariantsOf s places i group) where
+module _ (s places : List ℕ) {i : ℕ} {group : Found} (c : VariantsOf places i group) where
   pub no-group-said : (j : ℕ) → group ≡ found.Nothing → Says (Scene s places) s (eventSaid i j) Nothing
-  no-group-said j q = record { of = λ m g. missing-said (c .of m g) (variantOf j m) q ∙ group-names (ofName m) j (getElem? (m .events) i) }
+  no-group-said j q = record { of = λ m g. missing-said (c .of s m g) (variantOf j m) q ∙ group-names (ofName m) j (getElem? (m .events) i) }
 
   module _ {at j : ℕ} {f : Found} (e : group ≡ found.At at) (h : Picked maxList s at j f) where
     pub event-absent : f ≡ found.Nothing → Says (Scene s places) s (eventSaid i j) Nothing
     event-absent q = record {
-      of = λ m g. entry-said (c .of m g) (variantOf j m) e (λ vs u. missing-said (entry-picked constructor-variant-laws s h u) (λ v. ofName m (declaredName v)) q) ∙ group-names (ofName m) j (getElem? (m .events) i);
+      of = λ m g. entry-said (c .of s m g) (variantOf j m) e (λ vs u. missing-said (entry-picked constructor-variant-laws s h u) (λ v. ofName m (declaredName v)) q) ∙ group-names (ofName m) j (getElem? (m .events) i);
     }
 
     pub event-said : {a k at′ : ℕ} {r : Said} → f ≡ found.At k → a ≡ getD places 0 0 → at′ ≡ afterTag s k → r ≡ Line (NameAt a) (NameAt at′) Blank Blank Blank blame.Nothing → Says (Scene s places) s (eventSaid i j) r
     event-said q l b z = record {
-      of = λ m g. entry-said (c .of m g) (variantOf j m) e (λ vs u. entry-said (entry-picked constructor-variant-laws s h u) (λ v. ofName m (declaredName v)) q λ v w. name-said s places m g l z (declared-text s b w)) ∙ group-names (ofName m) j (getElem? (m .events) i);
+      of = λ m g. entry-said (c .of s m g) (variantOf j m) e (λ vs u. entry-said (entry-picked constructor-variant-laws s h u) (λ v. ofName m (declaredName v)) q λ v w. name-said s places m g l z (declared-text s b w)) ∙ group-names (ofName m) j (getElem? (m .events) i);
     }

@@ -82,8 +82,8 @@ abbrev pub WithStates : List ℕ → List ℕ → Found → Module → Type 0
 WithStates s places found m = Scene s places m × StatesAt s found (states m)
 
 -- the place of the list of variants of event group i
-pub record VariantsOf (s places : List ℕ) (i : ℕ) (r : Found) : Type 0 where
-  pub of : (m : Module) → Scene s places m → Entry (listOf maxList readConstructorVariant) s r (variantsIn (getElem? (m .events) i))
+pub record VariantsOf (places : List ℕ) (i : ℕ) (r : Found) : Type 0 where
+  pub of : (s : List ℕ) (m : Module) → Scene s places m → Entry (listOf maxList readConstructorVariant) s r (variantsIn (getElem? (m .events) i))
 
 -- the places of its transitions' fields, and with them the names that are declared
 abbrev pub WithRows : List ℕ → List ℕ → List ℕ → ℕ → Module → Type 0

@@ -4,6 +4,7 @@ use crate::entry::entry_at;
 use crate::said::Arg;
 use crate::said::Said;
 use crate::said::two;
+use findings::events_of;
 use findings::outputs_of;
 use findings::word;
 use typing::Blame;
@@ -108,22 +109,21 @@ pub(crate) fn say_variant<'a>(doc: &'a [u8], places: &'a [usize], found: Found, 
 }
 
 // The place of the list of variants of event group i.
-pub(crate) fn variants_of<'a>(doc: &'a [u8], places: &'a [usize], i: usize) -> Found
-    ensures { λ r. ⌜ VariantsOf (now (doc .entry)) (now (places .entry)) i r ⌝ }
+pub(crate) fn variants_of(places: &[usize], i: usize) -> Found
+    ensures { λ r. ⌜ VariantsOf (now (places .entry)) i r ⌝ }
 {
-    let f = entry_at(doc, word(places, 5), i);
-    let Found::At(k) = f else {
-        return Found::Nothing;
-    };
-    let name = after_head(doc, k);
-    Found::At(after(doc, name))
+    let groups = events_of(places);
+    if i < groups.len() / 2 {
+        return Found::At(groups[2 * i + 1]);
+    }
+    Found::Nothing
 }
 
 // Site 22: of variant j of event group i.
 pub(crate) fn say_event<'a>(doc: &'a [u8], places: &'a [usize], i: usize, j: usize) -> Said
     ensures { λ r. ⌜ Says (Scene (now (doc .entry)) (now (places .entry))) (now (doc .entry)) (eventSaid i j) r ⌝ }
 {
-    let g = variants_of(doc, places, i);
+    let g = variants_of(places, i);
     let Found::At(variants) = g else {
         return Said::Nothing;
     };

@@ -1,6 +1,7 @@
 -- By whether there are so many groups.
-use Rattle.text.proofs.VariantLaws.{no-group, group-found}
+use native.Mathlib.Omega.{arith}
 use borrow.Author.Needs.{needs}
+use Rattle.text.proofs.VariantLaws.{no-group, group-found}
 use Rattle.text.proofs.aft.variants_of.Statement.{statement}
 use Rattle.text.proofs.aft.variants_of.Tie as tie
 
@@ -9,10 +10,9 @@ variants-of-spec =
     tie.close
     (tie.spec
     (λ c κs. search needs)
-    (λ c κs. search needs)
-    (λ c. search needs)
-    (λ c. search needs)
-    (λ c. search no-group)
-    (λ c κs. search needs)
-    (λ c κs. search needs)
-    (λ c. search group-found))
+    (λ c. omega arith)
+    (λ c. omega arith)
+    (λ c. omega arith)
+    (λ c. omega arith)
+    (λ c. search group-found)
+    (λ c. search no-group))
