@@ -33,9 +33,6 @@ pairs-few s at = go (readCount maxList s at) refl
     go (ok c k) e = let m = count-kind s at maxList c k e in let l = pairs-length c s k in omega (arith, m .1)
     go (refused f p) e = omega arith
 
-pub filled-few : (s : List ℕ) (at : ℕ) (table : List ℕ) (r : ℕ) (table′ : List ℕ) → Filled table (pairsAt s at) r table′ → r ≤ 510
-filled-few s at table r table′ f = omega (arith, pairs-few s at, f .many)
-
 pub filled-front : (o xs : List ℕ) {r : ℕ} {t : List ℕ} → length xs ≤ length o → Filled o xs r t → take r t ≡ xs
 filled-front o xs {r} {t} h f =
     ap (take r) (f .words ∙ sets-eq xs o 0 (omega arith)) ∙ take-at xs (drop (0 + length xs) o) r (sym (f .many))

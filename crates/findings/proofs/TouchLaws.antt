@@ -33,24 +33,63 @@ use Rattle.reading.proofs.CaseViews.{expr-at}
 use Rattle.reading.proofs.ListViews.{list-at}
 use Rattle.reading.proofs.Walks.{name-text}
 use Rattle.typing.specs.Names.{eqName, member}
+use Rattle.typing.specs.Lanes.{print}
 use Rattle.typing.specs.Tells.{Ends}
 use Rattle.typing.specs.Table.{Past}
-use Rattle.typing.proofs.NameLaws.{eqName-sym}
+use Rattle.typing.proofs.NameLaws.{eqName-eq, eqName-sym}
 use Rattle.typing.proofs.TableLaws.{tag-out}
 use Rattle.typing.proofs.EnvLaws.{entry, after-is}
 use Rattle.typing.proofs.TypeLaws.{fields-are}
 use Rattle.findings.specs.Lists.{each}
 use Rattle.findings.specs.Mentions.{soleName, collectNames}
-use Rattle.findings.specs.Touch.{varAt, Touched, AllMarked, VarTouched, Touches, TouchesExpr, TouchesUnary, TouchesBinary}
+use Rattle.findings.specs.Touch.{varAt, isVar, mentions, Touched, AllMarked, VarTouched, Touches, TouchesExpr, TouchesUnary, TouchesBinary}
 
-pub member-append : (w : Name) (xs ys : List Name) → member w (xs ++ ys) ≡ pick (member w xs) true (member w ys)
-unfolding member pick
-member-append w [] ys = refl
-member-append w (x ∷ xs) ys = rw (member-append w xs ys) (go (eqName x w))
-  where
-    go : (b : Bool) → pick b true (pick (member w xs) true (member w ys)) ≡ pick (pick b true (member w xs)) true (member w ys)
-    go true = refl
-    go false = refl
+-- whether variable k is mentioned
+module _ (s names : List ℕ) (k : ℕ) where
+  mentions-append : (xs ys : List Name) → mentions s names k (xs ++ ys) ≡ pick (mentions s names k xs) true (mentions s names k ys)
+  unfolding mentions pick
+  mentions-append [] ys = refl
+  mentions-append (x ∷ xs) ys = rw (mentions-append xs ys) (go (isVar s names k x))
+    where
+      go : (b : Bool) → pick b true (pick (mentions s names k xs) true (mentions s names k ys)) ≡ pick (pick b true (mentions s names k xs)) true (mentions s names k ys)
+      go true = refl
+      go false = refl
+
+  -- one name: by the prints, and by the bytes
+  module _ (n : Name) where
+    var-near : getD names (2 * k + 1) 0 ≡ print 0 n → isVar s names k n ≡ eqName (varAt s names k) n
+    unfolding isVar pick
+    var-near e = rw (eq-eqb (getD names (2 * k + 1) 0) (print 0 n) e)
+
+    var-apart : (getD names (2 * k + 1) 0 ≡ print 0 n → ⊥) → isVar s names k n ≡ false
+    unfolding isVar pick
+    var-apart d = go (eqb (getD names (2 * k + 1) 0) (print 0 n)) refl
+      where
+        go : (b : Bool) → eqb (getD names (2 * k + 1) 0) (print 0 n) ≡ b → pick b (eqName (varAt s names k) n) false ≡ false
+        go true q = absurd (d (eqb-true (getD names (2 * k + 1) 0) (print 0 n) q))
+        go false q = refl
+
+    var-not : eqName (varAt s names k) n ≡ false → isVar s names k n ≡ false
+    unfolding isVar pick
+    var-not q = rw q (go (eqb (getD names (2 * k + 1) 0) (print 0 n)))
+      where
+        go : (b : Bool) → pick b false false ≡ false
+        go true = refl
+        go false = refl
+
+  -- where the table has the print of the variable's name: equal names have equal prints
+  module _ (p : getD names (2 * k + 1) 0 ≡ print 0 (varAt s names k)) where
+    var-is : (n : Name) → isVar s names k n ≡ eqName n (varAt s names k)
+    var-is n = go (eqName (varAt s names k) n) refl ∙ eqName-sym (varAt s names k) n
+      where
+        go : (b : Bool) → eqName (varAt s names k) n ≡ b → isVar s names k n ≡ eqName (varAt s names k) n
+        go true q = var-near n (p ∙ ap (print 0) (eqName-eq (varAt s names k) n q))
+        go false q = var-not n q ∙ sym q
+
+    pub mentions-member : (ns : List Name) → mentions s names k ns ≡ member (varAt s names k) ns
+    unfolding mentions member
+    mentions-member [] = refl
+    mentions-member (n ∷ ns) = rw (var-is n, mentions-member ns)
 
 cond-then : (a b : Bool) (x : ℕ) → cond b 1 (cond a 1 x) ≡ cond (pick a true b) 1 x
 unfolding pick
@@ -61,19 +100,18 @@ cond-then false b x = refl
 -- names mentioned one list after another
 module _ (s names : List ℕ) where
   pub touched-none : (m : List ℕ) → Touched s names m [] m
-  unfolding member
+  unfolding mentions
   touched-none m = record { size = refl; at = λ k h l. refl }
 
   pub touched-then : {m m′ m″ : List ℕ} {xs ys : List Name} → Touched s names m xs m′ → Touched s names m′ ys m″ → Touched s names m (xs ++ ys) m″
   touched-then {m} {m′} {m″} {xs} {ys} p q = record {
     size = q .size ∙ p .size;
     at = λ k h l.
-        let w = varAt s names k in
         let z = p .size in
         q .at k h (omega arith)
-        ∙ ap (cond (member w ys) 1) (p .at k h l)
-        ∙ cond-then (member w xs) (member w ys) (getD m k 0)
-        ∙ ap (λ (b : Bool). cond b 1 (getD m k 0)) (sym (member-append w xs ys));
+        ∙ ap (cond (mentions s names k ys) 1) (p .at k h l)
+        ∙ cond-then (mentions s names k xs) (mentions s names k ys) (getD m k 0)
+        ∙ ap (λ (b : Bool). cond b 1 (getD m k 0)) (sym (mentions-append s names k xs ys));
   }
 
   -- the same names, told otherwise
@@ -86,7 +124,7 @@ cond-same true x e = e
 cond-same false x e = refl
 
 pub touched-full : (s names m : List ℕ) (ns : List Name) → ((k : ℕ) → k < length names / 2 → getD m k 0 ≡ 1) → Touched s names m ns m
-touched-full s names m ns f = record { size = refl; at = λ k h l. cond-same (member (varAt s names k) ns) (getD m k 0) (f k h) }
+touched-full s names m ns f = record { size = refl; at = λ k h l. cond-same (mentions s names k ns) (getD m k 0) (f k h) }
 
 module _ (names m : List ℕ) where
   pub some-free : AllMarked names m false
@@ -143,34 +181,47 @@ last-or-before j k h = go (eqb j k) refl
 module _ (s names : List ℕ) (w : Name) (m : List ℕ) where
   pub record Touching (k : ℕ) (m′ : List ℕ) : Type 0 where
     pub size : length m′ ≡ length m
-    pub done : (j : ℕ) → j < k → j < length m → getD m′ j 0 ≡ cond (eqName (varAt s names j) w) 1 (getD m j 0)
+    pub done : (j : ℕ) → j < k → j < length m → getD m′ j 0 ≡ cond (isVar s names j w) 1 (getD m j 0)
     pub kept : (j : ℕ) → k ≤ j → getD m′ j 0 ≡ getD m j 0
 
   pub touching-none : Touching 0 m
   touching-none = record { size = refl; done = λ j h. absurd (omega arith); kept = λ j h. refl }
 
   module _ (k : ℕ) {m′ : List ℕ} (g : Touching k m′) where
-    pub touching-more : {m″ : List ℕ} → VarTouched s (getD names (2 * k) 0) w k m′ m″ → Touching (k + 1) m″
-    touching-more {m″} v = record {
-      size = v .size ∙ g .size;
+    -- one variable more, by what its mark is then
+    turned : {m″ : List ℕ} → length m″ ≡ length m′ → (k < length m → getD m″ k 0 ≡ cond (isVar s names k w) 1 (getD m k 0)) → ((j : ℕ) → (j ≡ k → ⊥) → getD m″ j 0 ≡ getD m′ j 0) → Touching (k + 1) m″
+    turned {m″} z here other = record {
+      size = z ∙ g .size;
       done = λ j h l. go j l (last-or-before j k h);
-      kept = λ j h. v .other j (λ q. omega arith) ∙ g .kept j (omega arith);
+      kept = λ j h. other j (λ q. omega arith) ∙ g .kept j (omega arith);
     }
       where
-        go : (j : ℕ) → j < length m → (j ≡ k) ⊎ (j < k) → getD m″ j 0 ≡ cond (eqName (varAt s names j) w) 1 (getD m j 0)
-        go j l (inl q) =
-            let z = g .size in
-            let i : getD m″ k 0 ≡ cond (eqName (varAt s names k) w) 1 (getD m k 0) =
-            v .here (omega arith)
-            ∙ ap (cond (eqName (varAt s names k) w) 1) (g .kept k (omega arith)) in
-            subst (λ (x : ℕ). getD m″ x 0 ≡ cond (eqName (varAt s names x) w) 1 (getD m x 0)) (sym q) i
-        go j l (inr h) = v .other j (λ q. omega arith) ∙ g .done j h l
+        go : (j : ℕ) → j < length m → (j ≡ k) ⊎ (j < k) → getD m″ j 0 ≡ cond (isVar s names j w) 1 (getD m j 0)
+        go j l (inl q) = subst (λ (x : ℕ). getD m″ x 0 ≡ cond (isVar s names x w) 1 (getD m x 0)) (sym q) (here (omega arith))
+        go j l (inr h) = other j (λ q. omega arith) ∙ g .done j h l
+
+    module _ {p : ℕ} (e : p ≡ print 0 w) where
+      pub touching-near : {m″ : List ℕ} → getD names (2 * k + 1) 0 ≡ p → VarTouched s (getD names (2 * k) 0) w k m′ m″ → Touching (k + 1) m″
+      touching-near {m″} q v = turned (v .size) here (v .other)
+        where
+          here : k < length m → getD m″ k 0 ≡ cond (isVar s names k w) 1 (getD m k 0)
+          here l =
+              let z = g .size in
+              v .here (omega arith)
+              ∙ ap (cond (eqName (varAt s names k) w) 1) (g .kept k (omega arith))
+              ∙ ap (λ (b : Bool). cond b 1 (getD m k 0)) (sym (var-near s names k w (q ∙ e)))
+
+      pub touching-apart : (getD names (2 * k + 1) 0 ≡ p → ⊥) → Touching (k + 1) m′
+      touching-apart d = turned refl here (λ j q. refl)
+        where
+          here : k < length m → getD m′ k 0 ≡ cond (isVar s names k w) 1 (getD m k 0)
+          here l = g .kept k (omega arith) ∙ ap (λ (b : Bool). cond b 1 (getD m k 0)) (sym (var-apart s names k w (λ q. d (q ∙ sym e))))
 
     pub touching-all : {count : ℕ} → count ≡ length names / 2 → count ≤ k → Touched s names m (w ∷ []) m′
-    unfolding member pick
+    unfolding mentions pick
     touching-all e h = record {
       size = g .size;
-      at = λ j a l. g .done j (omega arith) l ∙ ap (λ (b : Bool). cond b 1 (getD m j 0)) (eqName-sym (varAt s names j) w ∙ sole (eqName w (varAt s names j)));
+      at = λ j a l. g .done j (omega arith) l ∙ ap (λ (b : Bool). cond b 1 (getD m j 0)) (sole (isVar s names j w));
     }
       where
         sole : (b : Bool) → b ≡ pick b true false

@@ -15,7 +15,7 @@ use Rattle.reading.specs.Decl.{readNames, readEnumDecl, readConstructorGroup, r
 use Rattle.reading.specs.Pattern.{readPattern}
 use Rattle.reading.specs.Transition.{Transition, readTopExpr, readOutputExpr, readAssignment, readOnError, readTransition}
 use Rattle.reading.specs.Module.{Module, readProperty, readModule}
-use Rattle.typing.specs.Table.{afterItem, afterHead, pairsAt, Past, Filled}
+use Rattle.typing.specs.Table.{afterItem, afterHead, pairsAt, Past}
 use Rattle.typing.specs.First.{GroupsAt}
 use Rattle.findings.specs.declared.rows.Listed.{Listed}
 use Rattle.typing.specs.declared.table.Found.{Found}
@@ -66,12 +66,6 @@ Bytes s = (i : ℕ) → getD s i 0 < 256
 -- the name and the absent variant of a pattern stand from a place to r, where r is not 0
 pub record PastBare (s : List ℕ) (name r : ℕ) : Type 0 where
   pub of : 0 < r → Items s 2 name r × (r ≤ length s)
-
--- the table of the list of records at a place, in a document, which is made of bytes
-pub record PairsFilled (s : List ℕ) (at : ℕ) (table : List ℕ) (r : ℕ) (table′ : List ℕ) : Type 0 where
-  pub filled : Filled table (pairsAt s at) r table′
-  pub few : r ≤ 510
-  pub each : Bytes s
 
 -- content reads at a place
 pub record Reads {A : Type 0} (F : Reader A) (s : List ℕ) (at : ℕ) (x : A) : Type 0 where

@@ -3,14 +3,13 @@ use reading::Answer;
 use reading::Cursor;
 use typing::after;
 use typing::after_head;
-use typing::fill_table;
 use typing::store;
 ghost use mathlib.Core.Path.{_≡_};
 ghost use mathlib.Core.List.{[], _∷_};
 ghost use Prim.Native.Nat.{_<_, _≤_};
 ghost use lib.ListN.{length, getD, take, drop};
 ghost use lib.Seq.{sets};
-ghost use Rattle.findings.specs.Scene.{rowFrom, endFrom, rowAt, rowEnd, field, groupsIn, eventsIn, outputsIn, PastBare, PairsFilled, RowsFilled};
+ghost use Rattle.findings.specs.Scene.{rowFrom, endFrom, rowAt, rowEnd, field, groupsIn, eventsIn, outputsIn, PastBare, RowsFilled};
 ghost use Rattle.typing.specs.Table.{Past};
 
 // A word of a table; 0 past its end.
@@ -223,11 +222,4 @@ pub(crate) fn fill_rows(doc: &[u8], at: usize, table: &mut [usize]) -> Listed
         count: count as u8,
         end: k,
     }
-}
-
-// Fills the table of the list of records at a place; how many words it takes.
-pub(crate) fn fill_pairs(doc: &[u8], at: usize, table: &mut [usize]) -> usize
-    ensures { λ r. ⌜ PairsFilled (now (doc .entry)) at (now (table .entry)) r (now (table .exit)) ⌝ }
-{
-    fill_table(doc, at, table)
 }

@@ -5,6 +5,7 @@ use reading::Tagged;
 use reading::text_at;
 use typing::after;
 use typing::after_expr;
+use typing::print_bytes;
 use typing::same;
 ghost use mathlib.Core.Path.{_≡_};
 ghost use mathlib.Core.List.{[], _∷_};
@@ -40,15 +41,18 @@ pub(crate) fn touch_var<'a>(doc: &'a [u8], key: usize, name: &'a [u8], k: usize,
     }
 }
 
-// Marks the variables of a name.
+// Marks the variables of a name, which is compared only with those of its print.
 pub(crate) fn touch<'a>(doc: &'a [u8], names: &'a [usize], name: &'a [u8], marks: &mut [u8])
     ensures { λ _. ⌜ Touched (now (doc .entry)) (now (names .entry)) (now (marks .entry)) (now (name .entry) ∷ []) (now (marks .exit)) ⌝ }
 {
+    let print = print_bytes(name, 0) as usize;
     let count = names.len() / 2;
     let mut k: usize = 0;
     while k < count {
-        let key = names[2 * k];
-        touch_var(doc, key, name, k, marks);
+        if names[2 * k + 1] == print {
+            let key = names[2 * k];
+            touch_var(doc, key, name, k, marks);
+        }
         k += 1;
     }
 }

@@ -1,13 +1,15 @@
 // Variables that nothing mentions: site 23.
 use crate::mentions::touch_all;
-use crate::rows::fill_pairs;
 use crate::rows::word;
 use crate::sheet::emit_if;
 use crate::touch::is_free;
+use reading::text_at;
+use typing::fill_table;
+use typing::print_bytes;
 ghost use mathlib.Core.Path.{_≡_};
 ghost use Prim.Native.Nat.{_+_, _≤_, _^_};
 ghost use lib.ListN.{length, replicate};
-ghost use Rattle.findings.specs.Touch.{MarksUsed, NotesUnmarked};
+ghost use Rattle.findings.specs.Touch.{Printed, VarsFilled, MarksUsed, NotesUnmarked};
 ghost use Rattle.findings.specs.WarningPromises.{NotesUnused};
 
 // A note for each of so many variables that is not marked.
@@ -33,6 +35,31 @@ pub(crate) fn note_unmarked(
     m
 }
 
+// Puts the print of each name of a table's pairs, which take so many words, behind the name's place.
+fn put_prints(doc: &[u8], table: &mut [usize], words: usize)
+    requires { ⌜ words ≤ length (now table) ⌝ }
+    ensures { λ _. ⌜ Printed (now (doc .entry)) (now (table .entry)) words (now (table .exit)) ⌝ }
+{
+    let count = words / 2;
+    let mut k: usize = 0;
+    while k < count {
+        let name = text_at(doc, table[2 * k]);
+        table[2 * k + 1] = print_bytes(name, 0) as usize;
+        k += 1;
+    }
+}
+
+// Fills the table of the variables of the list at a place, the place of each one's name and its print; how many words it takes.
+fn fill_vars(doc: &[u8], at: usize, table: &mut [usize]) -> usize
+    requires { ⌜ length (now table) ≡ 512 ⌝ }
+    ensures { λ r. ⌜ VarsFilled (now (doc .entry)) at r (now (table .exit)) ⌝ }
+    ensures { λ r. ⌜ r ≤ 510 ⌝ }
+{
+    let w = fill_table(doc, at, table);
+    put_prints(doc, table, w);
+    w
+}
+
 // Marks the variables that are mentioned; how many variables there are.
 pub(crate) fn mark_used<'a>(
     doc: &'a [u8],
@@ -47,7 +74,7 @@ pub(crate) fn mark_used<'a>(
     ensures { λ r. ⌜ MarksUsed (now (doc .entry)) (now (places .entry)) (now (rows .entry)) count r (now (marks .exit)) ⌝ }
 {
     let at = word(places, 7);
-    let w = fill_pairs(doc, at, table);
+    let w = fill_vars(doc, at, table);
     let vars = w / 2;
     let many = vars as u8;
     touch_all(doc, places, rows, count, &table[0..w], marks);
