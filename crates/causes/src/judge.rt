@@ -70,7 +70,12 @@ pub(crate) fn number_of<'a>(
         13 => one_if(!typing::is_valid_version_format(text_at(doc, at))),
         14 => one_if(typing::bounded_always_error(doc, at, 32)),
         15 => one_if(typing::is_literal_false(doc, at, 32)),
-        16 => clash_number(typing::contradictory_equalities(doc, at, 32)),
+        16 => clash_number(typing::contradictory_equalities(
+            doc,
+            at,
+            typing::after_expr(doc, at, 32),
+            32,
+        )),
         _ => 255,
     }
 }

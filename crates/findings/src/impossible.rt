@@ -8,10 +8,11 @@ use typing::null_at;
 ghost use Prim.Native.Nat.{_+_, _<_, _≤_, _^_};
 ghost use Rattle.findings.specs.WarningPromises.{NotesGuardImpossible, NotesImpossible};
 
-// The guard at a place, of transition i: site 26 only where 25 isn't given.
+// The guard from one place to another, of transition i: site 26 only where 25 isn't given.
 pub(crate) fn note_guard_impossible(
     doc: &[u8],
     at: usize,
+    end: usize,
     i: u32,
     out: &mut [u32],
     skip: usize,
@@ -28,7 +29,7 @@ pub(crate) fn note_guard_impossible(
     if is_literal_false(doc, at, 32) {
         return emit(out, skip, n, owner, 25, i, 0, 0);
     }
-    let c = contradictory_equalities(doc, at, 32);
+    let c = contradictory_equalities(doc, at, end, 32);
     match c {
         Clash::Nothing => n,
         Clash::Found(_, _, _) => emit(out, skip, n, owner, 26, i, 0, 0),
@@ -53,7 +54,8 @@ pub(crate) fn note_impossible<'a>(
     let mut i: u8 = 0;
     while i < count {
         let at = field(rows, i, 3);
-        m = note_guard_impossible(doc, at, i as u32, out, skip, m, owner);
+        let end = field(rows, i, 4);
+        m = note_guard_impossible(doc, at, end, i as u32, out, skip, m, owner);
         i += 1;
     }
     m

@@ -89,7 +89,8 @@ pub(crate) fn say_clash<'a>(doc: &'a [u8], places: &'a [usize], rows: &'a [usize
     if null_at(doc, at) {
         return Said::Nothing;
     }
-    let c = contradictory_equalities(doc, at, 32);
+    let end = field(rows, i, 4);
+    let c = contradictory_equalities(doc, at, end, 32);
     let Clash::Found(name, earlier, later) = c else {
         return Said::Nothing;
     };

@@ -98,11 +98,11 @@ fn is_long(at: usize, end: usize) -> bool
     511 < end - at
 }
 
-// A name that the guard at a place says to have two values, from right to left.
-pub fn contradictory_equalities(doc: &[u8], at: usize, depth: u64) -> Clash
+// A name that the guard at a place says to have two values, from right to left. The place where the guard is said to end only decides
+// between two ways to one answer.
+pub fn contradictory_equalities(doc: &[u8], at: usize, end: usize, depth: u64) -> Clash
     ensures { λ r. ⌜ Contradicts depth (now (doc .entry)) at r ⌝ }
 {
-    let end = after_expr(doc, at, depth);
     if is_long(at, end) {
         let r = clash_in_one_pass(doc, at, depth);
         return match r {

@@ -12,6 +12,7 @@ say-clash-spec =
     (λ c κs. search needs)
     (λ c. search clash-absent)
     (λ c κs. search needs)
+    (λ c κs. search needs)
     (λ c. search needs)
     (λ c. search needs)
     (λ c. search clash-none)
