@@ -1,10 +1,13 @@
 -- A search for the first entry of a name: what is left of the list decides.
-use Prim.Native.Nat.{ℕ, _-_, _<_, _≤_}
+use Prim.Native.Nat.{ℕ, _+_, _-_, _%_, _<_, _≤_}
 use mathlib.Core.Path.{_≡_, refl, sym, ap, subst, _∙_}
 use mathlib.Core.Bool.{Bool, true, false}
 use mathlib.Core.List.{List, [], _∷_}
 use mathlib.Core.Option.{Option, none, some}
 use native.Mathlib.Omega.{arith}
+use lib.ListN.{length, getD}
+use mir.Syntax.{w8}
+use mir.Val.{Fits}
 use Rattle.reading.specs.Read.{Reader, ok, pick}
 use Rattle.reading.specs.Limits.{maxList}
 use Rattle.reading.specs.Item.{readCount, readTag}
@@ -12,6 +15,7 @@ use Rattle.reading.specs.Text.{Name}
 use Rattle.reading.specs.Decl.{EnumDecl, ConstructorVariant, readEnumDecl, readConstructorVariant}
 use Rattle.reading.specs.Skip.{textAt}
 use Rattle.reading.specs.Link.{taggedOf}
+use Rattle.reading.specs.Short.{tagHead}
 use Rattle.reading.specs.Views.{ConstructorVariantAt, unit-variant, struct-variant}
 use Rattle.reading.specs.declared.cursor.Cursor.{Cursor}
 use Rattle.reading.specs.declared.fault.Fault.{Fault}
@@ -19,6 +23,7 @@ use Rattle.reading.specs.declared.item.Tag.{Tag}
 use Rattle.reading.specs.declared.item.Tagged.{Tagged}
 use Rattle.reading.specs.declared.item.Tagged.the-variants as tagged
 use Rattle.reading.proofs.Rules.{no}
+use Rattle.reading.proofs.Short.{tag-short}
 use Rattle.reading.proofs.ListLaws.{list-laws}
 use Rattle.reading.proofs.ExprLaws.{name-laws}
 use Rattle.reading.proofs.DeclLaws.{field-decl-laws}
@@ -27,13 +32,14 @@ use Rattle.reading.proofs.Walks.{name-text}
 use Rattle.typing.specs.Causes.{firstOf}
 use Rattle.typing.specs.Names.{eqName, called, firstCalled}
 use Rattle.typing.specs.Patterns.{declaredName}
-use Rattle.typing.specs.Table.{placeAfter, afterItem, afterHead, afterTag, Past}
-use Rattle.typing.specs.First.{FoundAt, found-here, found-nothing, enumName, First, FirstEnum, FirstVariant, PastVariant}
+use Rattle.typing.specs.Table.{placeAfter, afterItem, afterHead, afterTag, Past, Differs}
+use Rattle.typing.specs.First.{FoundAt, found-here, found-nothing, enumName, First, FirstEnum, FirstVariant, PastVariant, PastOther, OtherVariant, NextVariant}
 use Rattle.typing.specs.Entries.{opened}
 use Rattle.typing.specs.declared.entries.Entries.{Entries}
 use Rattle.typing.specs.declared.table.Found.{Found}
 use Rattle.typing.specs.declared.table.Found.the-variants.{At, Nothing}
 use Rattle.typing.proofs.NameLaws.{eqName-eq}
+use Rattle.typing.proofs.ShortLaws.{ended-after}
 use Rattle.typing.proofs.TableLaws.{tag-was, tag-out}
 use Rattle.typing.proofs.EnvLaws.{after-is}
 use Rattle.typing.proofs.EntryLaws.{entered, Scanning, scan-done, scan-turn, scan-next}
@@ -121,24 +127,67 @@ module _ (s : List ℕ) (name case : ℕ) {fields : ℕ} (o : Past s name fields
           ∙ ap (afterItem s) (o .is ∙ after-is name-laws s (o .each) name _ _ q)
           ∙ after-is (list-laws field-decl-laws maxList (omega arith)) s (o .each) _ _ _ r
 
--- variants: the head says where the name stands, and the case whether there is more
-module _ (s : List ℕ) (at : ℕ) (w : Name) {e : Entries} (o : e ≡ opened (readCount maxList s at)) (left k : ℕ) (z : 0 < left) (g : Seeking readConstructorVariant declaredName s w (e .many) (e .first) left k) {a : Tagged} (h : a ≡ taggedOf (readTag s k)) where
-  pub variant-none : {f : Fault} {p : ℕ} → a ≡ tagged.Refused f p → FirstVariant s at w Nothing
-  variant-none q = record {
-    of = λ xs n i.
-        let u = scan-turn g z xs (entered readConstructorVariant s at o xs n i) in
-        let v = constructor-variant-at s k (u .head) (u .end) (u .here) .tagged in
-        let x = tag-out _ h q in
-        no (cc);
-  }
+-- a unit by its first two bytes, and a short name after them
+module _ (s : List ℕ) (at : ℕ) (w : Name) (b : getD s at 0 ≡ 130) (z : getD s (at + 1) 0 ≡ 0) (h : 2 < length s - at) where
+  unit-tag : readTag s at ≡ ok (record { start = at; count = getD s at 0 % 32; case = getD s (at + 1) 0; place = at + 1 }) (at + 2)
+  unfolding tagHead pick
+  unit-tag =
+      let q : tagHead (getD s at 0) (getD s (at + 1) 0) ≡ true = rw (b, z) in
+      tag-was _ (tag-short s at q (omega arith) refl) refl
+
+  pub unit-other : ((i : ℕ) → Fits w8 (getD s i 0)) → (f : Found) → Differs s (at + 2) w f → OtherVariant s at w f
+  unfolding Differs OtherVariant placeAfter
+  unit-other each (At end) d =
+      let p : Past s (at + 2) end = record { is = ended-after (d .0); each = λ i. omega (arith, each i) } in
+      record {
+        of = λ x n r.
+            let t : textAt s (at + 2) ≡ declaredName x = ap (textAt s) (sym (ap placeAfter unit-tag)) ∙ variant-text s at x n r in
+            (ap (λ (y : Name). eqName y w) (sym t) ∙ d .1, unit-ends s (at + 2) (getD s (at + 1) 0) p z .of x n (by-tag (constructor-variant-at s at x n r) unit-tag));
+      }
+  unit-other each Nothing d = tt
+
+pub other-nowhere : (s : List ℕ) (at : ℕ) (w : Name) → OtherVariant s at w Nothing
+unfolding OtherVariant
+other-nowhere s at w = tt
+
+-- any variant: the head says where the name stands, and the case whether there is more
+module _ (s : List ℕ) (at : ℕ) (w : Name) {a : Tagged} (h : a ≡ taggedOf (readTag s at)) where
+  pub next-none : {f : Fault} {p : ℕ} → a ≡ tagged.Refused f p → NextVariant s at w Nothing
+  unfolding NextVariant
+  next-none q = λ x n r.
+      let v = constructor-variant-at s at x n r .tagged in
+      let u = tag-out _ h q in
+      no (cc)
 
   module _ {t : Tag} {c : Cursor} (q : a ≡ tagged.Case t c) {text : Name} {b : Bool} (i : text ≡ textAt s (c .at)) (f : b ≡ eqName text w) where
-    variant-called : (x : ConstructorVariant) (n : ℕ) → readConstructorVariant s k ≡ ok x n → b ≡ eqName (declaredName x) w
+    next-called : (x : ConstructorVariant) (n : ℕ) → readConstructorVariant s at ≡ ok x n → eqName (declaredName x) w ≡ b
     unfolding placeAfter
-    variant-called x n r = f ∙ ap (λ (y : Name). eqName y w) (i ∙ ap (textAt s) (sym (ap placeAfter (tag-was _ h q))) ∙ variant-text s k x n r)
+    next-called x n r = sym (f ∙ ap (λ (y : Name). eqName y w) (i ∙ ap (textAt s) (sym (ap placeAfter (tag-was _ h q))) ∙ variant-text s at x n r))
 
-    pub variant-hit : b ≡ true → FirstVariant s at w (At k)
-    variant-hit = hit readConstructorVariant declaredName s at w o left k g z variant-called
+    pub next-hit : b ≡ true → NextVariant s at w Nothing
+    unfolding NextVariant
+    next-hit y = λ x n r. next-called x n r ∙ y
 
-    pub variant-miss : {k' : ℕ} → b ≡ false → PastVariant s (c .at) (t .case) k' → Seeking readConstructorVariant declaredName s w (e .many) (e .first) (left - 1) k'
-    variant-miss y p = miss readConstructorVariant declaredName s at w o left k g z variant-called y λ x n r. p .of x n (by-tag (constructor-variant-at s k x n r) (tag-was _ h q))
+    pub next-miss : {end : ℕ} → b ≡ false → PastVariant s (c .at) (t .case) end → NextVariant s at w (At end)
+    unfolding NextVariant
+    next-miss y p = record { of = λ x n r. (next-called x n r ∙ y, p .of x n (by-tag (constructor-variant-at s at x n r) (tag-was _ h q))) }
+
+-- a search among variants
+module _ (s : List ℕ) (at : ℕ) (w : Name) {e : Entries} (o : e ≡ opened (readCount maxList s at)) (left k : ℕ) (z : 0 < left) (g : Seeking readConstructorVariant declaredName s w (e .many) (e .first) left k) where
+  variant-other : {k' : ℕ} → PastOther s k w k' → Seeking readConstructorVariant declaredName s w (e .many) (e .first) (left - 1) k'
+  variant-other u = miss readConstructorVariant declaredName s at w o left k g z (λ x n r. sym (u .of x n r .0)) refl λ x n r. u .of x n r .1
+
+  pub variant-passed : {f : Found} {k' : ℕ} → OtherVariant s k w f → f ≡ At k' → Seeking readConstructorVariant declaredName s w (e .many) (e .first) (left - 1) k'
+  unfolding OtherVariant
+  variant-passed v q = variant-other (rw q at v)
+
+  module _ {f : Found} (v : NextVariant s k w f) where
+    pub variant-miss : {k' : ℕ} → f ≡ At k' → Seeking readConstructorVariant declaredName s w (e .many) (e .first) (left - 1) k'
+    unfolding NextVariant
+    variant-miss q = variant-other (rw q at v)
+
+    pub variant-hit : f ≡ Nothing → FirstVariant s at w (At k)
+    unfolding NextVariant
+    variant-hit q =
+        let u : (x : ConstructorVariant) (n : ℕ) → readConstructorVariant s k ≡ ok x n → eqName (declaredName x) w ≡ true = rw q at v in
+        hit readConstructorVariant declaredName s at w o left k g z (λ x n r. sym (u x n r)) refl

@@ -1,4 +1,4 @@
--- Equality of names is equality, and names of other lengths differ.
+-- Equality of names is equality, and names of other lengths or other bytes differ.
 use Prim.Native.Nat.{ℕ, _+_, _<_, _≤_}
 use mathlib.Core.Path.{_≡_, refl, ap, sym, _∙_}
 use mathlib.Core.List.{[], _∷_}
@@ -40,12 +40,18 @@ eqName-eq (x ∷ xs) (y ∷ ys) h =
     let q = eqName-eq xs ys (pick-right (eqb x y) (eqName xs ys) h) in
     cc
 
-pub eqName-length : (a b : Name) → (length a ≡ length b → ⊥) → eqName a b ≡ false
-eqName-length a b h = go (eqName a b) refl
+eqName-ne : (a b : Name) → (a ≡ b → ⊥) → eqName a b ≡ false
+eqName-ne a b h = go (eqName a b) refl
   where
     go : (t : Bool) → eqName a b ≡ t → t ≡ false
-    go true e = absurd (h (ap length (eqName-eq a b e)))
+    go true e = absurd (h (eqName-eq a b e))
     go false e = refl
+
+pub eqName-length : (a b : Name) → (length a ≡ length b → ⊥) → eqName a b ≡ false
+eqName-length a b h = eqName-ne a b λ e. h (ap length e)
+
+pub eqName-byte : (a b : Name) (i : ℕ) → (getD a i 0 ≡ getD b i 0 → ⊥) → eqName a b ≡ false
+eqName-byte a b i h = eqName-ne a b λ e. h (ap (λ (x : Name). getD x i 0) e)
 
 pub eqb-sym : (a b : ℕ) → eqb a b ≡ eqb b a
 eqb-sym a b = go (eqb b a) refl

@@ -1,20 +1,25 @@
 -- Short items: what their first byte says of the place after them.
 use Prim.Native.Nat.{ℕ, suc, _+_, _-_, _/_, _%_, _<_, _≤_}
-use mathlib.Core.Path.{_≡_, refl, sym, ap, subst}
+use mathlib.Core.Path.{_≡_, refl, sym, ap, subst, _∙_}
 use mathlib.Core.List.{List}
 use native.Mathlib.Omega.{arith}
-use lib.ListN.{length, getD}
+use lib.ListN.{length, getD, take, drop, length-take, length-drop}
+use lib.Seq.{getD-take, getD-drop}
 use mir.Syntax.{w8}
 use mir.Val.{Fits}
 use borrow.Author.Tests.{lt-ltb, le-ltb, lt-leb, eq-eqb, ne-eqb}
 use Rattle.reading.specs.Read.{ok, pick}
 use Rattle.reading.specs.Head.{Hd, readHead, headWith, simple}
+use Rattle.reading.specs.Text.{Name}
+use Rattle.reading.specs.Skip.{textAt}
 use Rattle.reading.specs.Items.{inside, payload, Items, none, more}
 use Rattle.reading.proofs.Rules.{pick-true, pick-false}
-use Rattle.reading.proofs.Skips.{items-passed}
-use Rattle.typing.specs.Table.{placeAfter, Past, Ended, Stops}
+use Rattle.reading.proofs.Short.{by-range}
+use Rattle.reading.proofs.Skips.{items-passed, span-one}
+use Rattle.typing.specs.Table.{placeAfter, afterItem, Past, Ended, Stops, Differs}
 use Rattle.typing.specs.declared.table.Found.{Found}
 use Rattle.typing.specs.declared.table.Found.the-variants.{At, Nothing}
+use Rattle.typing.proofs.NameLaws.{eqName-length, eqName-byte}
 
 module _ (s : List ℕ) (at : ℕ) (h : at < length s) where
   -- a head of one byte, and a simple value
@@ -66,6 +71,39 @@ module _ (s : List ℕ) (at : ℕ) (h : at < length s) where
   unfolding Stops inside payload pick
   stops-name l m o = one-item _ (head-one 3 (getD s at 0 - 96) (omega arith) (omega arith) (omega arith) (omega arith)) refl (omega arith)
 
+-- the last byte of a part
+last-of : (s : List ℕ) (at n : ℕ) → 0 < n → getD (take n (drop (at + 1) s)) (n - 1) 0 ≡ getD s (at + n) 0
+last-of s at n h =
+    let i : n - 1 < n = omega arith in
+    let j : at + 1 + (n - 1) ≡ at + n = omega arith in
+    rw (getD-take n (drop (at + 1) s) (n - 1) 0 i, getD-drop (at + 1) s (n - 1) 0, j)
+
+-- a short name there, by its head
+module _ (s : List ℕ) (at : ℕ) (h : at < length s) (l : 96 < getD s at 0) (m : getD s at 0 < 120) (o : getD s at 0 - 96 < length s - at) where
+  short-text : textAt s at ≡ take (getD s at 0 - 96) (drop (at + 1) s)
+  short-text =
+      let w : at + 1 + getD s at 0 % 32 - (at + 1) ≡ getD s at 0 - 96 = omega arith in
+      sym (span-one s at h refl (by-range 3 (getD s at 0) (omega arith) (omega arith) m) (omega arith)) ∙ ap (λ (k : ℕ). take k (drop (at + 1) s)) w
+
+  short-length : length (textAt s at) ≡ getD s at 0 - 96
+  short-length = rw short-text (simp (length-take, length-drop) (omega arith))
+
+  short-last : getD (textAt s at) (getD s at 0 - 96 - 1) 0 ≡ getD s (at + (getD s at 0 - 96)) 0
+  short-last = rw short-text (last-of s at (getD s at 0 - 96) (omega arith))
+
+  module _ (w : Name) where
+    pub differs-length : (getD s at 0 - 96 ≡ length w → ⊥) → Differs s at w (At (at + 1 + (getD s at 0 - 96)))
+    unfolding Stops Differs
+    differs-length n = (stops-name s at h l m o, eqName-length _ w λ e. n (sym short-length ∙ e))
+
+    pub differs-last : (getD s (at + (getD s at 0 - 96)) 0 ≡ getD w (getD s at 0 - 96 - 1) 0 → ⊥) → Differs s at w (At (at + 1 + (getD s at 0 - 96)))
+    unfolding Stops Differs
+    differs-last n = (stops-name s at h l m o, eqName-byte _ w _ λ e. n (sym short-last ∙ e))
+
+pub differs-nowhere : (s : List ℕ) (at : ℕ) (w : Name) → Differs s at w Nothing
+unfolding Differs
+differs-nowhere s at w = tt
+
 pub stops-nowhere : (s : List ℕ) (at : ℕ) → Stops s at Nothing
 unfolding Stops
 stops-nowhere s at = tt
@@ -88,8 +126,12 @@ module _ (s : List ℕ) (at : ℕ) (l : getD s (at + 1) 0 < 24) (h : 2 < length 
       record { item = item-opens s at (omega arith) 0 _ (head-one s at (omega arith) 4 2 (omega arith) (omega arith) (omega arith) (omega arith)) refl i; room = e .room }
   stops-second b Nothing e = tt
 
+pub ended-after : {s : List ℕ} {at end : ℕ} → Ended s at end → end ≡ afterItem s at
+unfolding placeAfter
+ended-after e = sym (ap placeAfter (items-passed (e .item) (e .room)))
+
 pub stops-past : (s : List ℕ) (at : ℕ) → ((i : ℕ) → Fits w8 (getD s i 0)) → {f : Found} {end : ℕ} → Stops s at f → f ≡ At end → Past s at end
-unfolding Stops placeAfter
+unfolding Stops
 stops-past s at each {f} {end} g q =
     let e : Ended s at end = rw q at g in
-    record { is = sym (ap placeAfter (items-passed (e .item) (e .room))); each = λ i. omega (arith, each i) }
+    record { is = ended-after e; each = λ i. omega (arith, each i) }

@@ -29,12 +29,14 @@ use Rattle.reading.proofs.Answers.{num, out}
 use Rattle.reading.proofs.ItemLaws.{number-kind}
 use Rattle.typing.specs.Names.{eqName}
 use Rattle.typing.specs.Means.{tyOf}
-use Rattle.typing.specs.Table.{placeAfter, afterItem, afterHead, pairsFrom, pairsOf, pairsAt, Filled, findFirst, findIn, found, widthType, caseType, exprTypeAt, memberFrom, memberOf, memberAt}
+use Rattle.typing.specs.Table.{placeAfter, afterItem, afterHead, pairsFrom, pairsOf, pairsAt, Filled, Ended, Differs, findFirst, findIn, found, widthType, caseType, exprTypeAt, memberFrom, memberOf, memberAt}
 use Rattle.typing.specs.Entries.{opened}
 use Rattle.typing.specs.declared.entries.Entries.{Entries}
 use Rattle.typing.specs.declared.ty.Ty.{Ty}
 use Rattle.typing.specs.declared.ty.Ty.the-variants as ty
+use Rattle.typing.specs.declared.table.Found.{Found}
 use Rattle.typing.specs.declared.table.Found.the-variants.{At, Nothing}
+use Rattle.typing.proofs.ShortLaws.{ended-after}
 
 -- what was read, from what the code learnt of its answer
 pub tag-was : (m : Read Tag) {r : Tagged} {t : Tag} {c : Cursor} → r ≡ taggedOf m → r ≡ tagged.Case t c → m ≡ ok t (c .at)
@@ -125,6 +127,12 @@ module _ (s : List ℕ) (at : ℕ) (n : Name) where
       pub name-miss : {m : ℕ} → b ≡ false → m ≡ afterItem s k → memberFrom (left - 1) s m n ≡ memberAt s at n
       unfolding pick
       name-miss q g = rw (first-name, q, g)
+
+    pub name-passed : {o : Found} {m : ℕ} → 0 < left → Differs s k n o → o ≡ At m → memberFrom (left - 1) s m n ≡ memberAt s at n
+    unfolding Differs
+    name-passed {o} {m} h d q =
+        let u : Ended s k m × (eqName (textAt s k) n ≡ false) = rw q at d in
+        name-miss h refl refl (u .1) (ended-after (u .0))
 
 -- a declared type
 module _ (s : List ℕ) (at : ℕ) where

@@ -2,6 +2,7 @@
 use Prim.Native.Nat.{ℕ, _+_, _*_}
 use mathlib.Core.Path.{_≡_}
 use mathlib.Core.List.{List}
+use mathlib.Core.Bool.{true, false}
 use mathlib.Core.Option.{Option, none, some}
 use lib.ListN.{length, getD, getElem?}
 use Rattle.reading.specs.Read.{Reader, ok}
@@ -11,7 +12,7 @@ use Rattle.reading.specs.Combine.{listOf}
 use Rattle.reading.specs.Decl.{EnumDecl, ConstructorVariant, ConstructorGroup, readEnumDecl, readConstructorVariant}
 use Rattle.reading.specs.Skip.{textAt}
 use Rattle.reading.specs.Views.{ConstructorVariantAt}
-use Rattle.typing.specs.Names.{firstCalled}
+use Rattle.typing.specs.Names.{eqName, firstCalled}
 use Rattle.typing.specs.Patterns.{declaredName}
 use Rattle.typing.specs.declared.table.Found.{Found}
 use Rattle.typing.specs.declared.table.Found.the-variants.{At, Nothing}
@@ -54,3 +55,17 @@ pub record FirstVariants (s groups : List ℕ) (w : Name) (r : Found) : Type 0 w
 -- r is the place after the declared variant of a case whose name stands at a place
 pub record PastVariant (s : List ℕ) (name case r : ℕ) : Type 0 where
   pub of : (x : ConstructorVariant) (n : ℕ) → ConstructorVariantAt s name case x n → r ≡ n
+
+-- end is the place after the declared variant at a place, which is not of the name
+pub record PastOther (s : List ℕ) (at : ℕ) (w : Name) (end : ℕ) : Type 0 where
+  pub of : (x : ConstructorVariant) (n : ℕ) → readConstructorVariant s at ≡ ok x n → (eqName (declaredName x) w ≡ false) × (end ≡ n)
+
+-- the same, if the place is told
+unfoldable pub OtherVariant : List ℕ → ℕ → Name → Found → Type 0
+OtherVariant s at w (At end) = PastOther s at w end
+OtherVariant s at w Nothing = Unit {0}
+
+-- the same, if it is not of the name; else it is
+unfoldable pub NextVariant : List ℕ → ℕ → Name → Found → Type 0
+NextVariant s at w (At end) = PastOther s at w end
+NextVariant s at w Nothing = (x : ConstructorVariant) (n : ℕ) → readConstructorVariant s at ≡ ok x n → eqName (declaredName x) w ≡ true

@@ -44,6 +44,11 @@ unfoldable pub Stops : List ℕ → ℕ → Found → Type 0
 Stops s at (At end) = Ended s at end
 Stops s at Nothing = Unit {0}
 
+-- the same of a text that is another than the name
+unfoldable pub Differs : List ℕ → ℕ → Name → Found → Type 0
+Differs s at w (At end) = Ended s at end × (eqName (textAt s at) w ≡ false)
+Differs s at w Nothing = Unit {0}
+
 -- the place after the head of the record at a place
 abbrev pub afterHead : List ℕ → ℕ → ℕ
 afterHead s at = placeAfter (readKind 4 s at)

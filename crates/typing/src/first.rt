@@ -4,10 +4,11 @@ use crate::fill::after_head;
 use crate::names::same;
 use crate::table::Found;
 use crate::table::after;
+use crate::table::other_end;
 use reading::Cursor;
 use reading::Tagged;
 use reading::text_at;
-ghost use Rattle.typing.specs.First.{FirstEnum, FirstVariants, FirstVariant, PastVariant};
+ghost use Rattle.typing.specs.First.{FirstEnum, FirstVariants, FirstVariant, PastVariant, OtherVariant, NextVariant};
 
 // In the list of enums at a place.
 pub fn first_enum<'a>(doc: &'a [u8], at: usize, name: &'a [u8]) -> Found
@@ -55,7 +56,40 @@ fn after_variant(doc: &[u8], name: usize, case: u64) -> usize
     after(doc, fields)
 }
 
-// In the list of variants at a place: the case number stands before the name.
+// Where the unit of a short name at a place ends, if it is told from the name: two bytes stand before the unit's own.
+fn other_unit<'a>(doc: &'a [u8], at: usize, name: &'a [u8]) -> Found
+    ensures { λ r. ⌜ OtherVariant (now (doc .entry)) at (now (name .entry)) r ⌝ }
+{
+    let len = doc.len();
+    if at < len {
+        if 2 < len - at {
+            if doc[at] == 130 {
+                if doc[at + 1] == 0 {
+                    return other_end(doc, at + 2, name);
+                }
+            }
+        }
+    }
+    Found::Nothing
+}
+
+// Where the declared variant at a place ends, if it is not of the name: the case number stands before its own.
+fn past_other<'a>(doc: &'a [u8], at: usize, name: &'a [u8]) -> Found
+    ensures { λ r. ⌜ NextVariant (now (doc .entry)) at (now (name .entry)) r ⌝ }
+{
+    let c = Cursor { at };
+    let t = c.tag(doc);
+    let Tagged::Case(tag, fields) = t else {
+        return Found::Nothing;
+    };
+    let key = fields.at;
+    if same(text_at(doc, key), name) {
+        return Found::Nothing;
+    }
+    Found::At(after_variant(doc, key, tag.case))
+}
+
+// In the list of variants at a place. Most are passed by `other_unit`.
 pub fn first_variant<'a>(doc: &'a [u8], at: usize, name: &'a [u8]) -> Found
     ensures { λ r. ⌜ FirstVariant (now (doc .entry)) at (now (name .entry)) r ⌝ }
 {
@@ -63,16 +97,21 @@ pub fn first_variant<'a>(doc: &'a [u8], at: usize, name: &'a [u8]) -> Found
     let mut k = e.first;
     let mut left = e.many;
     while 0 < left {
-        let c = Cursor { at: k };
-        let t = c.tag(doc);
-        let Tagged::Case(tag, fields) = t else {
-            return Found::Nothing;
-        };
-        let key = fields.at;
-        if same(text_at(doc, key), name) {
-            return Found::At(k);
+        let o = other_unit(doc, k, name);
+        match o {
+            Found::At(end) => {
+                k = end;
+            }
+            Found::Nothing => {
+                let whole = doc;
+                let sought = name;
+                let p = past_other(whole, k, sought);
+                let Found::At(end) = p else {
+                    return Found::At(k);
+                };
+                k = end;
+            }
         }
-        k = after_variant(doc, key, tag.case);
         left -= 1;
     }
     Found::Nothing

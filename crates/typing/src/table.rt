@@ -11,7 +11,7 @@ ghost use mathlib.Core.Path.{_≡_};
 ghost use Rattle.reading.specs.Item.{readNumber};
 ghost use Rattle.reading.specs.Limits.{maxU32};
 ghost use Rattle.typing.specs.Means.{tyOf};
-ghost use Rattle.typing.specs.Table.{Past, Stops, findIn, found, widthType, exprTypeAt, memberAt};
+ghost use Rattle.typing.specs.Table.{Past, Stops, Differs, findIn, found, widthType, exprTypeAt, memberAt};
 
 // What stands under a name: its place.
 pub enum Found {
@@ -148,7 +148,31 @@ pub(crate) fn ty_at(doc: &[u8], at: usize) -> Ty
     }
 }
 
-// Whether the list of names at a place has the name.
+// Where the short name at a place ends, if its length or its last byte tells it from the name.
+pub(crate) fn other_end<'a>(doc: &'a [u8], at: usize, name: &'a [u8]) -> Found
+    ensures { λ r. ⌜ Differs (now (doc .entry)) at (now (name .entry)) r ⌝ }
+{
+    let len = doc.len();
+    if at < len {
+        let b = doc[at];
+        if 96 < b {
+            if b < 120 {
+                let n = (b - 96) as usize;
+                if n < len - at {
+                    if n != name.len() {
+                        return Found::At(at + 1 + n);
+                    }
+                    if doc[at + n] != name[n - 1] {
+                        return Found::At(at + 1 + n);
+                    }
+                }
+            }
+        }
+    }
+    Found::Nothing
+}
+
+// Whether the list of names at a place has the name. Most are passed by `other_end`.
 pub fn has_name<'a>(doc: &'a [u8], at: usize, name: &'a [u8]) -> bool
     ensures { λ r. ⌜ r ≡ memberAt (now (doc .entry)) at (now (name .entry)) ⌝ }
 {
@@ -156,10 +180,19 @@ pub fn has_name<'a>(doc: &'a [u8], at: usize, name: &'a [u8]) -> bool
     let mut k = e.first;
     let mut left = e.many;
     while 0 < left {
-        if same(text_at(doc, k), name) {
-            return true;
+        let o = other_end(doc, k, name);
+        match o {
+            Found::At(end) => {
+                k = end;
+            }
+            Found::Nothing => {
+                let whole = doc;
+                if same(text_at(whole, k), name) {
+                    return true;
+                }
+                k = after(whole, k);
+            }
         }
-        k = after(doc, k);
         left -= 1;
     }
     false

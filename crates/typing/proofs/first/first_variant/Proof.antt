@@ -1,10 +1,11 @@
--- What is left of the list decides.
+-- What is left of the list decides; most variants are passed by their heads.
+use mathlib.Core.Logic.{⊎-elim}
 use native.Mathlib.Omega.{arith}
 use borrow.Author.Needs.{needs}
 use Rattle.reading.specs.Decl.{readConstructorVariant}
 use Rattle.typing.specs.Patterns.{declaredName}
 use Rattle.typing.proofs.EntryLaws.{scan-start}
-use Rattle.typing.proofs.FirstLaws.{Seeking, first-done, variant-none, variant-hit, variant-miss}
+use Rattle.typing.proofs.FirstLaws.{Seeking, first-done, variant-hit, variant-miss, variant-passed}
 use Rattle.typing.proofs.first.first_variant.Statement.{statement}
 use Rattle.typing.proofs.first.first_variant.Tie as tie
 
@@ -25,12 +26,11 @@ first-variant-spec =
     (λ c κs. search needs)
     (λ c. search needs)
     (λ c. search needs)
-    (λ c. search variant-none)
     (λ c κs. search needs)
-    (λ c κs. search needs)
+    (λ c. search needs)
+    (λ c. search needs)
     (λ c. search variant-hit)
-    (λ c κs. search needs)
     (λ c. omega arith)
     (λ c. omega arith)
-    (λ c. search variant-miss)
+    (λ c. ⊎-elim (λ w. rw (w .3) (search variant-passed)) (λ w. rw (w .6) (search variant-miss)) (c .match .came))
     (λ c. search first-done))
