@@ -1,6 +1,6 @@
 -- What is noted of a guard, by what its judging answers; and of the guards of all transitions, row by row.
 use Prim.Native.Nat.{ℕ, _+_, _<_, _≤_}
-use mathlib.Core.Path.{_≡_, sym, ap, _∙_}
+use mathlib.Core.Path.{_≡_, sym, ap, subst, _∙_}
 use mathlib.Core.Bool.{Bool, true, false}
 use mathlib.Core.List.{List, [], _∷_}
 use mathlib.Core.Option.{some}
@@ -64,14 +64,18 @@ module _ (s : List ℕ) (owner : ℕ) (o : List ℕ) (skip n : ℕ) (rows : List
   guards-start = record { of = λ ts w q. left-all owner o skip n (each impossible (placed 0 ts)) }
 
   module _ (i r : ℕ) {o′ : List ℕ} (g : GuardsLeft i r o′) where
-    pub guards-more : {r′ : ℕ} {o″ : List ℕ} {at : ℕ} → i < count → at ≡ field rows i 3 → NotesGuardImpossible s owner o′ skip r r′ o″ at i → GuardsLeft (i + 1) r′ o″
+    pub guards-more : {r′ : ℕ} {o″ : List ℕ} → i < count → NotesGuardImpossible s owner o′ skip r r′ o″ (field rows i 3) i → GuardsLeft (i + 1) r′ o″
     unfolding impossible
-    guards-more h e p = record {
+    guards-more h p = record {
       of = λ ts w q.
           let x = get-some ts i (omega arith) in
           let k = w .at i (x .0) (x .1) .guard-is in
-          each-turn impossible i ts (x .0) (x .1) (g .of ts w q) (p .of (x .0 .guard) (record { end = field rows i 4; is = ap (optional readTopExpr s) e ∙ k }));
+          each-turn impossible i ts (x .0) (x .1) (g .of ts w q) (p .of (x .0 .guard) (record { end = field rows i 4; is = k }));
     }
 
     pub guards-done : count ≤ i → NotesImpossible s owner o skip n r o′ rows count
     guards-done h = record { of = λ ts w q. each-done impossible i ts (omega arith) (g .of ts w q) }
+
+-- a guard whose place is known
+pub guard-at : (s : List ℕ) (owner : ℕ) {o : List ℕ} {skip n r : ℕ} {o′ : List ℕ} {at at′ i : ℕ} → at ≡ at′ → NotesGuardImpossible s owner o skip n r o′ at i → NotesGuardImpossible s owner o skip n r o′ at′ i
+guard-at s owner {o} {skip} {n} {r} {o′} {at} {at′} {i} e p = subst (λ (k : ℕ). NotesGuardImpossible s owner o skip n r o′ k i) e p

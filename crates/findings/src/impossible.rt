@@ -6,6 +6,7 @@ use typing::contradictory_equalities;
 use typing::is_literal_false;
 use typing::null_at;
 ghost use Prim.Native.Nat.{_+_, _<_, _≤_, _^_};
+ghost use Rattle.findings.specs.Scene.{field};
 ghost use Rattle.findings.specs.WarningPromises.{NotesGuardImpossible, NotesImpossible};
 
 // The guard from one place to another, of transition i: site 26 only where 25 isn't given.
@@ -36,7 +37,26 @@ pub(crate) fn note_guard_impossible(
     }
 }
 
-// Those of all transitions, by their rows.
+// That of transition i, by the rows.
+fn note_row<'a>(
+    doc: &'a [u8],
+    rows: &'a [usize],
+    i: u8,
+    out: &mut [u32],
+    skip: usize,
+    n: usize,
+    owner: u32,
+) -> usize
+    requires { ⌜ n < 2 ^ 40 ⌝ }
+    ensures { λ r. ⌜ NotesGuardImpossible (now (doc .entry)) owner (now (out .entry)) skip n r (now (out .exit)) (field (now (rows .entry)) i 3) i ⌝ }
+    ensures { λ r. ⌜ r ≤ n + 1 ⌝ }
+{
+    let at = field(rows, i, 3);
+    let end = field(rows, i, 4);
+    note_guard_impossible(doc, at, end, i as u32, out, skip, n, owner)
+}
+
+// Those of all transitions.
 pub(crate) fn note_impossible<'a>(
     doc: &'a [u8],
     rows: &'a [usize],
@@ -53,9 +73,7 @@ pub(crate) fn note_impossible<'a>(
     let mut m = n;
     let mut i: u8 = 0;
     while i < count {
-        let at = field(rows, i, 3);
-        let end = field(rows, i, 4);
-        m = note_guard_impossible(doc, at, end, i as u32, out, skip, m, owner);
+        m = note_row(doc, rows, i, out, skip, m, owner);
         i += 1;
     }
     m

@@ -10,7 +10,10 @@ use crate::lang::ir::Ir;
 use crate::messages::{alike, output, ranked, run as run_program};
 use crate::offer::{Finder, Reader, Teller};
 use crate::original::findings;
-use crate::samples::{claims, equalities, every_pair, faulty, growing, samples, Sample};
+use crate::samples::{
+    bindings, claims, equalities, every_pair, faulty, growing, mentions, samples, sets, units,
+    Sample,
+};
 use std::cell::RefCell;
 use std::fs;
 use std::hint::black_box;
@@ -260,14 +263,14 @@ pub fn programs(ours: &Path, rust: &Path, nothing: &Path) -> Result<(), String> 
     all.push(sample("ranked", ranked(81)));
     all.push(sample("claims", claims()));
     all.push(sample("equals", equalities()));
+    all.push(sample("mentions", mentions()));
+    all.push(sample("sets", sets()));
+    all.push(sample("bindings", bindings()));
+    all.push(sample("units", units()));
     for sample in all {
         let due = output(&sample.bytes);
         let mut times = [Vec::new(), Vec::new(), Vec::new()];
-        let rounds = match sample.name {
-            "equals" => PAIR_ROUNDS,
-            _ => PROGRAM_ROUNDS,
-        };
-        for _ in 0..rounds {
+        for _ in 0..PROGRAM_ROUNDS {
             for (path, times) in [ours, rust, nothing].into_iter().zip(&mut times) {
                 let start = Instant::now();
                 let given = run_program(path, &sample.bytes)?;
@@ -279,7 +282,7 @@ pub fn programs(ours: &Path, rust: &Path, nothing: &Path) -> Result<(), String> 
         }
         let [ours, rust, nothing] = times.map(median);
         println!(
-            "{:<6} {:>6} bytes, {:>6} printed: program {ours:>9.0} ns, over the Rust {rust:>9.0} ns, a program that does nothing {nothing:>7.0} ns, Rust/ours {:.2}, less the start {:.2}",
+            "{:<8} {:>6} bytes, {:>6} printed: program {ours:>9.0} ns, over the Rust {rust:>9.0} ns, a program that does nothing {nothing:>7.0} ns, Rust/ours {:.2}, less the start {:.2}",
             sample.name,
             sample.bytes.len(),
             due.len(),

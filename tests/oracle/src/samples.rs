@@ -94,8 +94,7 @@ pub fn claims() -> Ir {
     ir((0..11).map(module).collect())
 }
 
-/// One transition whose guard is 3,900 equalities of as many names: what costs
-/// the library most.
+/// One transition whose guard is 3,900 equalities of as many names.
 pub fn equalities() -> Ir {
     let equal = |k: u8| {
         let name: String = [k / 16, k % 16]
@@ -108,26 +107,85 @@ pub fn equalities() -> Ir {
         }
     };
     let all = (0..=255).flat_map(|k| (0..16).map(equal(k))).take(3_900);
-    let mut row: Vec<Expr> = all.collect();
-    while row.len() > 1 {
-        let mut rest = row.into_iter();
-        row = std::iter::from_fn(|| {
-            let left = rest.next()?;
-            Some(match rest.next() {
-                Some(right) => binary(BinOp::LogicAnd, left, right),
-                None => left,
-            })
-        })
-        .collect();
-    }
     let module = mixed("Link", 1, 1);
     ir(vec![Module {
         transitions: vec![Transition {
-            guard: row.pop(),
+            guard: Some(joined(BinOp::LogicAnd, all.collect())),
             ..module.transitions[0].clone()
         }],
         ..module
     }])
+}
+
+/// Expressions joined by an operator, half of them left and half right.
+fn joined(op: BinOp, mut row: Vec<Expr>) -> Expr {
+    let right = row.split_off(row.len().div_ceil(2));
+    match right.is_empty() {
+        true => row.remove(0),
+        false => binary(op, joined(op, row), joined(op, right)),
+    }
+}
+
+/// A module with as many variables as there may be, and some transitions.
+fn crowded(transitions: Vec<Transition>) -> Ir {
+    let named = |k: usize| var(&format!("v{k:03}"), bit(8), int(0));
+    ir(vec![Module {
+        vars: (0..255).map(named).collect(),
+        transitions,
+        ..mixed("Link", 0, 1)
+    }])
+}
+
+/// One transition whose guard mentions one of 255 variables 4,400 times.
+pub fn mentions() -> Ir {
+    let less = binary(BinOp::Lt, path(&["v000"]), path(&["v000"]));
+    crowded(vec![Transition {
+        guard: Some(joined(BinOp::LogicOr, vec![less; 2_200])),
+        ..mixed_step(2)
+    }])
+}
+
+/// 16 transitions that set one of 255 variables 255 times each.
+pub fn sets() -> Ir {
+    let step = |place: usize| Transition {
+        assignments: vec![set("v000", int(1)); 255],
+        ..mixed_step(3 * place + 2)
+    };
+    crowded((0..16).map(step).collect())
+}
+
+/// 20 transitions whose patterns bind 255 fields each.
+pub fn bindings() -> Ir {
+    let names: Vec<String> = (0..255).map(|k| format!("f{k:03}")).collect();
+    let fields: Vec<(&str, Type)> = names.iter().map(|n| (n.as_str(), bit(8))).collect();
+    let bound = |n: &String| pattern(Some(n), PatternExpr::Wildcard);
+    let step = |place: usize| Transition {
+        pattern: event(
+            "Net",
+            Some(field_pattern("all", names.iter().map(bound).collect())),
+        ),
+        ..mixed_step(3 * place + 2)
+    };
+    ir(vec![Module {
+        events: vec![group("Net", vec![with_fields("all", &fields)])],
+        transitions: (0..20).map(step).collect(),
+        ..mixed("Link", 0, 1)
+    }])
+}
+
+/// Five modules of 255 transitions whose patterns name the last of 255 units.
+pub fn units() -> Ir {
+    let names: Vec<String> = (0..255).map(|k| format!("u{k:03}")).collect();
+    let step = |place: usize| Transition {
+        pattern: event("Net", Some(unit_pattern("u254"))),
+        ..mixed_step(3 * place + 2)
+    };
+    let module = |k: usize| Module {
+        events: vec![group("Net", names.iter().map(|n| unit(n)).collect())],
+        transitions: (0..255).map(step).collect(),
+        ..mixed(&format!("M{k}"), 0, 1)
+    };
+    ir((0..5).map(module).collect())
 }
 
 /// 16 modules of 255 transitions with one state and one pattern: each pair of

@@ -22,9 +22,6 @@ note-impossible-spec =
     Inv-loop
     μ-loop
     (λ c. (omega arith, omega arith, omega arith, search guards-start))
-    (λ c κs. search needs)
-    (λ c κs. search needs)
-    (λ c. search needs)
     (λ c κs. omega arith)
     (λ c. omega arith)
     (λ c. omega arith)
