@@ -289,7 +289,8 @@ fn table(count: usize, seed: u64) -> Done {
 }
 
 fn write_samples(dir: &Path) -> Done {
-    for sample in samples::samples().into_iter().chain([samples::deepest()]) {
+    let costly = [samples::deepest(), samples::longest_guard()];
+    for sample in samples::samples().into_iter().chain(costly) {
         write_file(dir, &format!("{}.cbor", sample.name), &sample.bytes)?;
     }
     Ok(())

@@ -117,6 +117,14 @@ pub fn equalities() -> Ir {
     }])
 }
 
+/// The same as a document: what a call keeps of a long guard takes stack.
+pub fn longest_guard() -> Sample {
+    Sample {
+        name: "equals",
+        bytes: encode(&equalities()),
+    }
+}
+
 /// Expressions joined by an operator, half of them left and half right.
 fn joined(op: BinOp, mut row: Vec<Expr>) -> Expr {
     let right = row.split_off(row.len().div_ceil(2));
