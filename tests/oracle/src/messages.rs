@@ -3,13 +3,16 @@
 
 use crate::decode::{answer, decode};
 use crate::encode::encode;
-use crate::generate::build::{bare, enum_decl, event, group, ir, step, text};
+use crate::generate::build::{
+    bare, binary, enum_decl, event, group, int, ir, one, path, step, text,
+};
 use crate::generate::cases::{self, cases};
 use crate::generate::rng::Rng;
 use crate::generate::{deep, disturb, limits, planted, seeds, valid, whole, Source};
-use crate::lang::ir::{Ir, Module, Transition};
+use crate::lang::ir::{BinOp, Ir, Module, Transition};
 use crate::lines::{print, LENT};
 use crate::original::findings;
+use crate::samples::joined;
 use crate::table::Table;
 use std::collections::{BTreeMap, HashSet};
 use std::io::{self, Read, Write};
@@ -279,7 +282,9 @@ pub fn program(path: &Path, count: usize, seed: u64) -> Result<bool, String> {
 
 /// A document of any kind and size. Some have nearly as many findings as the
 /// words hold, or a few more; some are of the length, or have as many
-/// findings, up to which a program may do with less memory.
+/// findings, up to which a program may do with less memory; some have guards
+/// of about the length from which a checker may judge them otherwise, or long
+/// ones.
 fn any(rng: &mut Rng, source: &mut Source, number: usize) -> Vec<u8> {
     match number % 200 {
         0 => whole::bulky(rng).bytes,
@@ -298,6 +303,7 @@ fn any(rng: &mut Rng, source: &mut Source, number: usize) -> Vec<u8> {
             limits::fill(&mut ir, rng.between(4_094, 4_098));
             encode(&ir)
         }
+        6 => encode(&guarded(rng)),
         _ => match rng.below(4) {
             0 => source.next().bytes,
             1 => whole::nearly_sound(rng).bytes,
@@ -311,6 +317,28 @@ fn any(rng: &mut Rng, source: &mut Source, number: usize) -> Vec<u8> {
             }
         },
     }
+}
+
+/// One transition whose guard joins equalities; names come again, and some of
+/// these guards give a name two values.
+fn guarded(rng: &mut Rng) -> Ir {
+    let many = rng.of(&[2, 30, 31, 32, 33, 34, 300, 3_600]);
+    let other = rng.below(2 * many);
+    let equal = |place: usize| {
+        let name = format!("v{:03x}", rng.below(many));
+        let value = int(u64::from(place == other));
+        match rng.chance(1, 2) {
+            true => binary(BinOp::Eq, path(&[&name]), value),
+            false => binary(BinOp::Eq, value, path(&[&name])),
+        }
+    };
+    let guard = joined(BinOp::LogicAnd, (0..many).map(equal).collect());
+    one(|module| {
+        module.transitions = vec![Transition {
+            guard: Some(guard),
+            ..step("A", "E", "A")
+        }];
+    })
 }
 
 fn show(doc: &[u8], due: &[u8], given: &[u8]) {

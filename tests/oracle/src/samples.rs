@@ -126,7 +126,7 @@ pub fn longest_guard() -> Sample {
 }
 
 /// Expressions joined by an operator, half of them left and half right.
-fn joined(op: BinOp, mut row: Vec<Expr>) -> Expr {
+pub fn joined(op: BinOp, mut row: Vec<Expr>) -> Expr {
     let right = row.split_off(row.len().div_ceil(2));
     match right.is_empty() {
         true => row.remove(0),
