@@ -1,10 +1,10 @@
 -- Past an item whose head is one byte: each such head says what the whole head does; the loop over them goes as the definition does.
-use Prim.Native.Nat.{ℕ, _+_, _-_, _*_, _%_, _<_, _≤_}
+use Prim.Native.Nat.{ℕ, _+_, _-_, _*_, _/_, _%_, _<_, _≤_}
 use mathlib.Core.Path.{_≡_, refl, ap, _∙_}
 use mathlib.Core.List.{List}
 use native.Mathlib.Omega.{arith}
 use lib.ListN.{length, getD}
-use borrow.Author.Tests.{lt-leb}
+use borrow.Author.Tests.{le-ltb, lt-leb, eq-eqb}
 use Rattle.reading.specs.Read.{Read, ok, pick}
 use Rattle.reading.specs.Head.{Hd, readHead, headWith, simple}
 use Rattle.reading.specs.Items.{inside, payload}
@@ -16,6 +16,7 @@ use Rattle.reading.specs.declared.item.Answer.the-variants.{Got}
 use Rattle.reading.specs.declared.step.Step.{Step}
 use Rattle.reading.specs.declared.walk.Short.{Short}
 use Rattle.reading.specs.declared.walk.Short.the-variants.{Past, Longer}
+use Rattle.reading.proofs.Rules.{pick-true, pick-false}
 use Rattle.reading.proofs.Answers.{answer-ok}
 use Rattle.reading.proofs.Short.{by-range, head-one}
 use Rattle.reading.proofs.Skips.{passed-head, skip-on, skip-less}
@@ -29,18 +30,20 @@ module _ (more : ℕ) (s : List ℕ) (at : ℕ) (there : at + 1 + more ≤ lengt
   head-range : (due : ℕ) → due ≤ 6 → due * 32 ≤ getD s at 0 → getD s at 0 < due * 32 + 24 → readHead s at ≡ ok (record { major = due; argument = getD s at 0 % 32 }) (at + 1)
   head-range due d l m = head-one s due at (omega arith) (by-range due (getD s at 0) d l m)
 
-  head-null : getD s at 0 ≡ 246 → readHead s at ≡ ok (record { major = 7; argument = 22 }) (at + 1)
-  unfolding readHead headWith simple pick
-  head-null e = rw (lt-leb (length s) at (omega arith), e)
+  head-simple : 244 ≤ getD s at 0 → getD s at 0 ≤ 246 → readHead s at ≡ ok (record { major = 7; argument = getD s at 0 % 32 }) (at + 1)
+  unfolding readHead headWith simple
+  head-simple l m =
+      let seven : getD s at 0 / 32 ≡ 7 = omega arith in
+      rw (lt-leb (length s) at (omega arith), pick-false, le-ltb 27 (getD s at 0 % 32) (omega arith), pick-false, seven, eq-eqb 7 7 refl, pick-true, le-ltb (getD s at 0 % 32) 20 (omega arith), pick-false, le-ltb 22 (getD s at 0 % 32) (omega arith), pick-false)
 
-  -- past a number, null, an array and a string
+  -- past a number, a simple value, an array and a string
   pub past-number : getD s at 0 < 24 → Passed more s at (Past more (record { at = at + 1 }))
   unfolding Passed inside payload pick
   past-number m = by-head (head-range 0 (omega arith) (omega arith) m) (omega arith) (omega arith) there
 
-  pub past-null : getD s at 0 ≡ 246 → Passed more s at (Past more (record { at = at + 1 }))
+  pub past-simple : 244 ≤ getD s at 0 → getD s at 0 ≤ 246 → Passed more s at (Past more (record { at = at + 1 }))
   unfolding Passed inside payload pick
-  past-null e = by-head (head-null e) (omega arith) (omega arith) there
+  past-simple l m = by-head (head-simple l m) (omega arith) (omega arith) there
 
   pub past-array : 128 ≤ getD s at 0 → getD s at 0 < 152 → getD s at 0 % 32 ≤ length s - (at + 1) - more → Passed more s at (Past (more + getD s at 0 % 32) (record { at = at + 1 }))
   unfolding Passed inside payload pick
@@ -68,7 +71,10 @@ module _ (left : ℕ) (s : List ℕ) (at : ℕ) (w : Read (Unit {0})) (decides :
     short-on = skip-on left s at w decides some got refl
 
     pub short-less : length s - c .at < length s - at
-    short-less = skip-less left s at w decides some got refl
+    short-less = skip-less left s at w decides some got refl (omega arith)
+
+    pub short-past : {n : ℕ} → n ≤ at → n ≤ c .at
+    short-past h = omega (arith, short-less)
 
     pub short-room : c .at + items ≤ length s
     short-room = passes .room

@@ -116,8 +116,11 @@ module _ (left : ℕ) (s : List ℕ) (at : ℕ) (w : Read (Unit {0})) (decides :
     pub skip-on : {items : ℕ} {c : Cursor} → a ≡ Got items c → skipItems items s (c .at) ≡ w
     skip-on q = sym (first ∙ rw (num _ e q, bind-ok))
 
-    pub skip-less : {items : ℕ} {c : Cursor} → a ≡ Got items c → length s - c .at < length s - at
-    skip-less q = let p = skip-spans (left - 1) s at _ _ (num _ e q) in omega (arith, p .0, p .1)
+    pub skip-further : {items : ℕ} {c : Cursor} {v : Read (Unit {0})} → a ≡ Got items c → v ≡ skipItems items s (c .at) → v ≡ w
+    skip-further q x = x ∙ skip-on q
+
+    pub skip-less : {items n : ℕ} {c : Cursor} → a ≡ Got items c → c .at ≤ n → length s - n < length s - at
+    skip-less q h = let p = skip-spans (left - 1) s at _ _ (num _ e q) in omega (arith, p .0, p .1)
 
     pub skip-out : {f : Fault} {p : ℕ} {x : Step} → a ≡ Refused f p → x ≡ stepOf a → x ≡ stands w
     unfolding stepOf

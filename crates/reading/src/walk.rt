@@ -88,7 +88,7 @@ impl Cursor {
         )
     }
 
-    // Past so many items, by their whole heads.
+    // Past so many items, the first by its whole head, and each after which the next head is longer.
     fn skip_any(self, doc: &[u8], count: u64) -> Step
         ensures { λ r. ⌜ r ≡ stands (skipItems count (now (doc .entry)) (self .at)) ⌝ }
     {
@@ -100,8 +100,9 @@ impl Cursor {
             let Answer::Got(items, next) = r else {
                 return r.step();
             };
-            left = items;
-            at = next.at;
+            let rest = next.skip_shorts(doc, items);
+            left = rest.left;
+            at = rest.at;
         }
         Step::To(Cursor { at })
     }
@@ -126,8 +127,10 @@ impl Cursor {
                 }
                 return Short::Longer;
             }
-            if b == 246 {
-                return Short::Past(more, Cursor { at: next });
+            if 244 <= b {
+                if b <= 246 {
+                    return Short::Past(more, Cursor { at: next });
+                }
             }
             return Short::Longer;
         }
@@ -150,6 +153,7 @@ impl Cursor {
     // Before each turn the bytes ahead can hold the items left, so that none is counted for a number.
     fn skip_shorts(self, doc: &[u8], count: u64) -> Rest
         ensures { λ r. ⌜ skipItems (r .left) (now (doc .entry)) (r .at) ≡ skipItems count (now (doc .entry)) (self .at) ⌝ }
+        ensures { λ r. ⌜ self .at ≤ r .at ⌝ }
     {
         let mut at = self.at;
         let mut left = count;
