@@ -3,6 +3,9 @@ use crate::output::print_page;
 use findings::Ready;
 use findings::name_module;
 use findings::open_module;
+use text::Near;
+use text::look_up_finding;
+use text::look_up_module;
 use text::module_at;
 use text::put_bytes;
 use text::put_finding;
@@ -10,6 +13,8 @@ use typing::Found;
 ghost use mathlib.Core.Path.{_≡_};
 ghost use Prim.Native.Nat.{_+_, _≤_};
 ghost use lib.ListN.{length};
+ghost use Rattle.reading.specs.Limits.{maxList, maxModules};
+ghost use Rattle.text.specs.Near.{Kept};
 
 // A word; 0 past the end.
 fn word_at(words: &[u32], k: usize) -> u32 {
@@ -52,7 +57,9 @@ fn put_words<'a>(
     claims: &'a [usize],
     page: &mut [u8],
     at: usize,
+    near: Near,
 ) -> usize
+    requires { ⌜ Kept maxList (now doc) near ⌝ }
     requires { ⌜ length (now doc) ≤ 0xffff ⌝ }
     requires { ⌜ i ≤ 0xffff ⌝ }
     requires { ⌜ 1020 ≤ length (now table) ⌝ }
@@ -78,6 +85,7 @@ fn put_words<'a>(
         second as usize,
         page,
         at,
+        near,
     )
 }
 
@@ -96,7 +104,9 @@ fn put_line<'a>(
     claims: &'a [usize],
     page: &mut [u8],
     at: usize,
+    near: Near,
 ) -> usize
+    requires { ⌜ Kept maxList (now doc) near ⌝ }
     requires { ⌜ length (now doc) ≤ 0xffff ⌝ }
     requires { ⌜ i ≤ 0xffff ⌝ }
     requires { ⌜ 1020 ≤ length (now table) ⌝ }
@@ -119,8 +129,38 @@ fn put_line<'a>(
         claims,
         page,
         k,
+        near,
     );
     end_line(page, end)
+}
+
+// Looks up the entry that finding number i is about.
+fn look_up_words<'a>(
+    doc: &'a [u8],
+    words: &'a [u32],
+    i: usize,
+    places: &'a [usize],
+    rows: &'a [usize],
+    known: Ready,
+    near: Near,
+) -> Near
+    requires { ⌜ i ≤ 0xffff ⌝ }
+    requires { ⌜ Kept maxList (now doc) near ⌝ }
+    ensures { λ r. ⌜ Kept maxList (now (doc .entry)) r ⌝ }
+{
+    let site = word_at(words, 5 * i + 1);
+    let first = word_at(words, 5 * i + 2);
+    let second = word_at(words, 5 * i + 3);
+    look_up_finding(
+        doc,
+        places,
+        rows,
+        known,
+        site,
+        first as usize,
+        second as usize,
+        near,
+    )
 }
 
 // Prints a page that is nearly full; where the next line starts.
@@ -161,12 +201,14 @@ fn print_run<'a>(
 {
     let owner = word_at(words, 5 * k);
     let mut at: usize = 0;
+    let mut near = Near::Nothing;
     let mut i = k;
     while i < all {
         if word_at(words, 5 * i) != owner {
             print_page(page, at);
             return i;
         }
+        near = look_up_words(doc, words, i, places, rows, known, near);
         let end = put_line(
             doc,
             words,
@@ -181,6 +223,7 @@ fn print_run<'a>(
             claims,
             page,
             at,
+            near,
         );
         at = turned(page, end);
         i += 1;
@@ -230,13 +273,14 @@ fn print_named<'a>(
     )
 }
 
-// The same, where no table is filled yet.
-fn print_module<'a>(
+// The same for the module at a place, where no table is filled yet.
+fn print_at<'a>(
     doc: &'a [u8],
     words: &'a [u32],
     errors: usize,
     all: usize,
     k: usize,
+    at: usize,
     places: &mut [usize],
     rows: &mut [usize],
     table: &mut [usize],
@@ -254,13 +298,6 @@ fn print_module<'a>(
     requires { ⌜ length (now claims) ≡ 1020 ⌝ }
     ensures { λ r. ⌜ r ≤ 0xffff ⌝ }
 {
-    if all <= k {
-        return all;
-    }
-    let f = module_at(doc, word_at(words, 5 * k) as usize);
-    let Found::At(at) = f else {
-        return all;
-    };
     let listed = open_module(doc, at, places, rows);
     print_named(
         doc,
@@ -271,6 +308,52 @@ fn print_module<'a>(
         places,
         rows,
         listed.count,
+        table,
+        enums,
+        claims,
+        page,
+    )
+}
+
+// The same for any module, of which the last is near; all where there is none.
+fn print_module<'a>(
+    doc: &'a [u8],
+    words: &'a [u32],
+    errors: usize,
+    all: usize,
+    k: usize,
+    near: Near,
+    places: &mut [usize],
+    rows: &mut [usize],
+    table: &mut [usize],
+    enums: &mut [usize],
+    claims: &mut [usize],
+    page: &mut [u8],
+) -> usize
+    requires { ⌜ Kept maxModules (now doc) near ⌝ }
+    requires { ⌜ length (now doc) ≤ 0xffff ⌝ }
+    requires { ⌜ all ≤ 0xffff ⌝ }
+    requires { ⌜ k ≤ 0xffff ⌝ }
+    requires { ⌜ 1033 ≤ length (now places) ⌝ }
+    requires { ⌜ 2040 ≤ length (now rows) ⌝ }
+    requires { ⌜ 1020 ≤ length (now table) ⌝ }
+    requires { ⌜ 510 ≤ length (now enums) ⌝ }
+    requires { ⌜ length (now claims) ≡ 1020 ⌝ }
+    ensures { λ r. ⌜ r ≤ 0xffff ⌝ }
+{
+    let f = module_at(doc, word_at(words, 5 * k) as usize, near);
+    let Found::At(at) = f else {
+        return all;
+    };
+    print_at(
+        doc,
+        words,
+        errors,
+        all,
+        k,
+        at,
+        places,
+        rows,
         table,
         enums,
         claims,
@@ -289,15 +372,21 @@ fn print_all<'a>(doc: &'a [u8], words: &'a [u32], errors: usize, all: usize)
     let mut enums = [0usize; 510];
     let mut claims = [0usize; 1020];
     let mut page = [0u8; 20480];
+    let mut near = Near::Nothing;
     let mut k: usize = 0;
     let mut turns: usize = 0;
     while turns < all {
+        if all <= k {
+            return;
+        }
+        near = look_up_module(doc, word_at(words, 5 * k) as usize, near);
         k = print_module(
             doc,
             words,
             errors,
             all,
             k,
+            near,
             &mut places,
             &mut rows,
             &mut table,

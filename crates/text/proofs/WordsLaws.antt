@@ -53,13 +53,16 @@ opened-said s at site i j x y z w = record {
 }
 
 -- the modules stand after the version
-pub module-found : (s : List ℕ) (k : ℕ) {version modules : ℕ} {f : Found} → version ≡ afterHead s 0 → Past s version modules → Picked maxModules s modules k f → ModuleAt s k f
-module-found s k {version} {modules} e t p = record {
+pub modules-there : (s : List ℕ) {version modules : ℕ} → version ≡ afterHead s 0 → Past s version modules → Past s (afterHead s 0) modules
+modules-there s e t = rw e at t
+
+pub module-found : (s : List ℕ) (k : ℕ) {modules : ℕ} {f : Found} → Past s (afterHead s 0) modules → Picked maxModules s modules k f → ModuleAt s k f
+module-found s k {modules} t p = record {
   of = λ x n g.
       let v = ir-at s 0 x n (document-at s x n g) in
       let h = fields-head 2 s 0 tt (v .ir-version) (v .opens) in
       let a = after-is (number-laws maxVersion (omega arith)) s (t .each) (v .ir-version) (x .ir-version) (v .modules) (version-agrees s (v .ir-version) _ _ (v .ir-version-is)) in
-      entry-picked module-laws s p (reads-there (t .is ∙ ap (afterItem s) (e ∙ h) ∙ a) (v .modules-is));
+      entry-picked module-laws s p (reads-there (t .is ∙ ap (afterItem s) h ∙ a) (v .modules-is));
 }
 
 -- what is said in the module that a finding names

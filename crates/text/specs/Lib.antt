@@ -9,4 +9,5 @@ pub mod CauseText
 pub mod Message
 pub mod Said
 pub mod Says
+pub mod Near
 pub mod Told

@@ -1,5 +1,6 @@
 // What is said of on_error, of properties and assumptions, of State variants and of events: sites 16 to 22.
 use crate::blame::unfit;
+use crate::entry::Near;
 use crate::entry::entry_at;
 use crate::said::Arg;
 use crate::said::Said;
@@ -16,6 +17,8 @@ use typing::null_at;
 use typing::type_formula;
 use typing::validate_output_expr;
 ghost use Rattle.findings.specs.Scene.{Scene};
+ghost use Rattle.reading.specs.Limits.{maxList};
+ghost use Rattle.text.specs.Near.{Kept};
 ghost use Rattle.text.specs.Message.{errorNextSaid, errorEmitSaid, claimSaid, formulaSaid, variantSaid, eventSaid};
 ghost use Rattle.text.specs.Says.{WithNames, WithClaims, WithFormulas, WithStates, VariantsOf, Says};
 
@@ -41,7 +44,9 @@ pub(crate) fn say_error_emit<'a>(
     names: &'a [usize],
     enums: &'a [usize],
     i: usize,
+    near: Near,
 ) -> Said
+    requires { ⌜ Kept maxList (now doc) near ⌝ }
     ensures { λ r. ⌜ Says (WithNames (now (doc .entry)) (now (places .entry)) (now (names .entry)) (now (enums .entry))) (now (doc .entry)) (errorEmitSaid i) r ⌝ }
 {
     let at = word(places, 2);
@@ -49,7 +54,7 @@ pub(crate) fn say_error_emit<'a>(
         return Said::Nothing;
     }
     let state = after_head(doc, at);
-    let f = entry_at(doc, after(doc, state), i);
+    let f = entry_at(doc, after(doc, state), i, near);
     let Found::At(k) = f else {
         return Said::Nothing;
     };
@@ -95,13 +100,20 @@ pub(crate) fn say_formula<'a>(
 }
 
 // Site 21: of variant i of the first enum called State.
-pub(crate) fn say_variant<'a>(doc: &'a [u8], places: &'a [usize], found: Found, i: usize) -> Said
+pub(crate) fn say_variant<'a>(
+    doc: &'a [u8],
+    places: &'a [usize],
+    found: Found,
+    i: usize,
+    near: Near,
+) -> Said
+    requires { ⌜ Kept maxList (now doc) near ⌝ }
     ensures { λ r. ⌜ Says (WithStates (now (doc .entry)) (now (places .entry)) found) (now (doc .entry)) (variantSaid i) r ⌝ }
 {
     let Found::At(states) = found else {
         return Said::Nothing;
     };
-    let f = entry_at(doc, states, i);
+    let f = entry_at(doc, states, i, near);
     let Found::At(k) = f else {
         return Said::Nothing;
     };
@@ -120,14 +132,21 @@ pub(crate) fn variants_of(places: &[usize], i: usize) -> Found
 }
 
 // Site 22: of variant j of event group i.
-pub(crate) fn say_event<'a>(doc: &'a [u8], places: &'a [usize], i: usize, j: usize) -> Said
+pub(crate) fn say_event<'a>(
+    doc: &'a [u8],
+    places: &'a [usize],
+    i: usize,
+    j: usize,
+    near: Near,
+) -> Said
+    requires { ⌜ Kept maxList (now doc) near ⌝ }
     ensures { λ r. ⌜ Says (Scene (now (doc .entry)) (now (places .entry))) (now (doc .entry)) (eventSaid i j) r ⌝ }
 {
     let g = variants_of(places, i);
     let Found::At(variants) = g else {
         return Said::Nothing;
     };
-    let f = entry_at(doc, variants, j);
+    let f = entry_at(doc, variants, j, near);
     let Found::At(k) = f else {
         return Said::Nothing;
     };

@@ -1,12 +1,22 @@
 // The message of a finding into lent bytes, by the tables of its module.
+use crate::aft::variants_of;
+use crate::entry::Near;
+use crate::entry::look_up;
 use crate::pieces::put_pair_at;
 use crate::pieces::put_priority_at;
 use crate::site::put_said;
 use crate::words::say_named;
 use findings::Ready;
+use findings::field;
+use findings::word;
+use typing::Found;
+use typing::after;
+use typing::after_head;
 ghost use mathlib.Core.Path.{_≡_};
 ghost use Prim.Native.Nat.{_+_, _*_, _≤_};
 ghost use lib.ListN.{length, take};
+ghost use Rattle.reading.specs.Limits.{maxList};
+ghost use Rattle.text.specs.Near.{Kept};
 ghost use Rattle.text.specs.Says.{Named, PutsFinding};
 
 // Puts the message from a place on; the place after it. Bytes that don't fit are left out.
@@ -24,7 +34,9 @@ pub fn put_finding<'a>(
     j: usize,
     out: &mut [u8],
     at: usize,
+    near: Near,
 ) -> usize
+    requires { ⌜ Kept maxList (now doc) near ⌝ }
     requires { ⌜ length (now doc) ≤ 0xffff ⌝ }
     requires { ⌜ 1020 ≤ length (now table) ⌝ }
     requires { ⌜ known .enums ≤ length (now enums) ⌝ }
@@ -57,6 +69,68 @@ pub fn put_finding<'a>(
         site,
         i,
         j,
+        near,
     );
     put_said(out, at, doc, site, x)
+}
+
+// The place of the list in which the entry stands that a finding of a transition is about, by its row.
+fn list_of_row(rows: &[usize], site: u32, i: usize) -> Found {
+    if 255 < i {
+        return Found::Nothing;
+    }
+    if site == 13 {
+        return Found::At(field(rows, i as u8, 5));
+    }
+    Found::At(field(rows, i as u8, 6))
+}
+
+// The same for a finding at any site; none where there is no such list.
+fn list_of<'a>(
+    doc: &'a [u8],
+    places: &'a [usize],
+    rows: &'a [usize],
+    known: Ready,
+    site: u32,
+    i: usize,
+) -> Found {
+    match site {
+        5 => Found::At(word(places, 7)),
+        11..=13 => list_of_row(rows, site, i),
+        17 => Found::At(after(doc, after_head(doc, word(places, 2)))),
+        21 => known.found,
+        22 => variants_of(places, i),
+        23 => Found::At(word(places, 7)),
+        _ => Found::Nothing,
+    }
+}
+
+// The number of the entry there.
+fn number_in_list(site: u32, i: usize, j: usize) -> usize {
+    match site {
+        11..=13 => j,
+        22 => j,
+        _ => i,
+    }
+}
+
+// Looks up the entry that a finding is about, so that its message finds it near.
+pub fn look_up_finding<'a>(
+    doc: &'a [u8],
+    places: &'a [usize],
+    rows: &'a [usize],
+    known: Ready,
+    site: u32,
+    i: usize,
+    j: usize,
+    near: Near,
+) -> Near
+    requires { ⌜ Kept maxList (now doc) near ⌝ }
+    ensures { λ r. ⌜ Kept maxList (now (doc .entry)) r ⌝ }
+{
+    let f = list_of(doc, places, rows, known, site, i);
+    match f {
+        Found::At(list) => look_up(doc, list, 255, number_in_list(site, i, j), near),
+        Found::Nothing => near,
+    }
 }

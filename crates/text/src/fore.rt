@@ -1,5 +1,6 @@
 // What is said of a module, its initial state and version, and its variables: sites 1 to 5, and 23.
 use crate::blame::untyped;
+use crate::entry::Near;
 use crate::entry::entry_at;
 use crate::said::Arg;
 use crate::said::Said;
@@ -12,6 +13,8 @@ use typing::after_head;
 use typing::null_at;
 use typing::type_expr;
 ghost use Rattle.findings.specs.Scene.{Scene};
+ghost use Rattle.reading.specs.Limits.{maxList};
+ghost use Rattle.text.specs.Near.{Kept};
 ghost use Rattle.text.specs.Message.{ofModule, initialSaid, versionSaid, initSaid, varSaid};
 ghost use Rattle.text.specs.Says.{WithNames, Says};
 
@@ -51,10 +54,12 @@ pub(crate) fn say_init<'a>(
     names: &'a [usize],
     enums: &'a [usize],
     i: usize,
+    near: Near,
 ) -> Said
+    requires { ⌜ Kept maxList (now doc) near ⌝ }
     ensures { λ r. ⌜ Says (WithNames (now (doc .entry)) (now (places .entry)) (now (names .entry)) (now (enums .entry))) (now (doc .entry)) (initSaid i) r ⌝ }
 {
-    let f = entry_at(doc, word(places, 7), i);
+    let f = entry_at(doc, word(places, 7), i, near);
     let Found::At(k) = f else {
         return Said::Nothing;
     };
@@ -67,10 +72,11 @@ pub(crate) fn say_init<'a>(
 }
 
 // Site 23: of variable i.
-pub(crate) fn say_var<'a>(doc: &'a [u8], places: &'a [usize], i: usize) -> Said
+pub(crate) fn say_var<'a>(doc: &'a [u8], places: &'a [usize], i: usize, near: Near) -> Said
+    requires { ⌜ Kept maxList (now doc) near ⌝ }
     ensures { λ r. ⌜ Says (Scene (now (doc .entry)) (now (places .entry))) (now (doc .entry)) (varSaid i) r ⌝ }
 {
-    let f = entry_at(doc, word(places, 7), i);
+    let f = entry_at(doc, word(places, 7), i, near);
     let Found::At(k) = f else {
         return Said::Nothing;
     };

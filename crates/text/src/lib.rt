@@ -21,11 +21,14 @@ mod told;
 mod transition;
 mod words;
 
+pub use entry::Near;
+pub use finding::look_up_finding;
 pub use finding::put_finding;
 use findings::Line;
 use findings::finding_at;
 pub use out::put_bytes;
 pub use told::Told;
+pub use words::look_up_module;
 pub use words::module_at;
 use words::say_words;
 use words::write;

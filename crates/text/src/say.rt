@@ -5,6 +5,7 @@ use crate::aft::say_error_next;
 use crate::aft::say_event;
 use crate::aft::say_formula;
 use crate::aft::say_variant;
+use crate::entry::Near;
 use crate::fore::say_init;
 use crate::fore::say_initial;
 use crate::fore::say_module;
@@ -23,6 +24,8 @@ use typing::Found;
 ghost use mathlib.Core.Path.{_≡_};
 ghost use Prim.Native.Nat.{_*_, _≤_};
 ghost use lib.ListN.{length, take};
+ghost use Rattle.reading.specs.Limits.{maxList};
+ghost use Rattle.text.specs.Near.{Kept};
 ghost use Rattle.text.specs.Message.{saying, prioritySaid, pairSaid, idSaid, clashSaid};
 ghost use Rattle.text.specs.Says.{WithRows, WithOwn, Tables, SaysOwn, SaysPlain, Says};
 
@@ -38,7 +41,9 @@ pub(crate) fn say_own<'a>(
     site: u32,
     i: usize,
     j: usize,
+    near: Near,
 ) -> Said
+    requires { ⌜ Kept maxList (now doc) near ⌝ }
     requires { ⌜ 1020 ≤ length (now table) ⌝ }
     ensures { λ r. ⌜ SaysOwn (WithOwn (now (doc .entry)) (now (places .entry)) (now (rows .entry)) count (take (2 * vars) (now (table .entry))) (now (enums .entry))) (now (doc .entry)) site i j r ⌝ }
     ensures { λ _. ⌜ length (now (table .exit)) ≡ length (now (table .entry)) ⌝ }
@@ -51,8 +56,8 @@ pub(crate) fn say_own<'a>(
     match site {
         6 => say_state(doc, places, rows, t),
         7 => say_next(doc, places, rows, t),
-        11 => say_set(doc, places, rows, t, j),
-        _ => say_judged(doc, places, rows, t, table, vars, enums, site, j),
+        11 => say_set(doc, places, rows, t, j, near),
+        _ => say_judged(doc, places, rows, t, table, vars, enums, site, j, near),
     }
 }
 
@@ -141,7 +146,9 @@ pub(crate) fn say_plain<'a>(
     site: u32,
     i: usize,
     j: usize,
+    near: Near,
 ) -> Said
+    requires { ⌜ Kept maxList (now doc) near ⌝ }
     ensures { λ r. ⌜ SaysPlain (Tables (now (doc .entry)) (now (places .entry)) (now (rows .entry)) count found (now (names .entry)) (now (enums .entry)) (now (claims .entry))) (now (doc .entry)) site i j r ⌝ }
 {
     match site {
@@ -149,17 +156,17 @@ pub(crate) fn say_plain<'a>(
         2 => say_initial(doc, places),
         3 => say_module(doc, places),
         4 => say_version(doc, places),
-        5 => say_init(doc, places, names, enums, i),
+        5 => say_init(doc, places, names, enums, i, near),
         14 => say_priority_at(doc, places, rows, count, i, j),
         15 => say_pair_at(doc, places, rows, count, i, j),
         16 => say_error_next(doc, places),
-        17 => say_error_emit(doc, places, names, enums, i),
+        17 => say_error_emit(doc, places, names, enums, i, near),
         18 => say_claim(doc, places, claims, i),
         19 => say_formula(doc, places, claims, names, enums, i),
         20 => say_claim(doc, places, claims, i),
-        21 => say_variant(doc, places, found, i),
-        22 => say_event(doc, places, i, j),
-        23 => say_var(doc, places, i),
+        21 => say_variant(doc, places, found, i, near),
+        22 => say_event(doc, places, i, j, near),
+        23 => say_var(doc, places, i, near),
         24 => say_pair_at(doc, places, rows, count, i, j),
         25 => say_id_at(doc, places, rows, count, i),
         26 => say_clash_at(doc, places, rows, count, i),
@@ -181,7 +188,9 @@ pub(crate) fn say<'a>(
     site: u32,
     i: usize,
     j: usize,
+    near: Near,
 ) -> Said
+    requires { ⌜ Kept maxList (now doc) near ⌝ }
     requires { ⌜ 1020 ≤ length (now table) ⌝ }
     ensures { λ r. ⌜ Says (Tables (now (doc .entry)) (now (places .entry)) (now (rows .entry)) count found (take (2 * vars) (now (table .entry))) (now (enums .entry)) (now (claims .entry))) (now (doc .entry)) (saying site i j) r ⌝ }
     ensures { λ _. ⌜ length (now (table .exit)) ≡ length (now (table .entry)) ⌝ }
@@ -202,10 +211,23 @@ pub(crate) fn say<'a>(
             site,
             i,
             j,
+            near,
         );
     }
     if site <= 13 {
-        return say_own(doc, places, rows, count, table, vars, enums, site, i, j);
+        return say_own(
+            doc,
+            places,
+            rows,
+            count,
+            table,
+            vars,
+            enums,
+            site,
+            i,
+            j,
+            near,
+        );
     }
     let names = &table[0..k];
     say_plain(
@@ -220,5 +242,6 @@ pub(crate) fn say<'a>(
         site,
         i,
         j,
+        near,
     )
 }

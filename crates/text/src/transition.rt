@@ -1,5 +1,6 @@
 // What is said of a transition by itself: sites 6 to 13.
 use crate::blame::untyped;
+use crate::entry::Near;
 use crate::entry::entry_at;
 use crate::said::Arg;
 use crate::said::Said;
@@ -20,6 +21,8 @@ use typing::validate_output_expr;
 ghost use mathlib.Core.Path.{_≡_};
 ghost use Prim.Native.Nat.{_*_, _≤_};
 ghost use lib.ListN.{length, take};
+ghost use Rattle.reading.specs.Limits.{maxList};
+ghost use Rattle.text.specs.Near.{Kept};
 ghost use Rattle.text.specs.Says.{SaysState, SaysNext, SaysPattern, SaysGuard, SaysGuardType, SaysSet, SaysValue, SaysEmit, SaysInside, SaysJudged};
 
 // Site 6: of the state that transition i starts at.
@@ -102,10 +105,12 @@ pub(crate) fn say_set<'a>(
     rows: &'a [usize],
     i: u8,
     j: usize,
+    near: Near,
 ) -> Said
+    requires { ⌜ Kept maxList (now doc) near ⌝ }
     ensures { λ r. ⌜ SaysSet (now (doc .entry)) (now (places .entry)) (now (rows .entry)) i j r ⌝ }
 {
-    let f = entry_at(doc, field(rows, i, 6), j);
+    let f = entry_at(doc, field(rows, i, 6), j, near);
     let Found::At(k) = f else {
         return Said::Nothing;
     };
@@ -127,10 +132,12 @@ pub(crate) fn say_value<'a>(
     names: &'a [usize],
     enums: &'a [usize],
     j: usize,
+    near: Near,
 ) -> Said
+    requires { ⌜ Kept maxList (now doc) near ⌝ }
     ensures { λ r. ⌜ SaysValue (now (doc .entry)) (now (places .entry)) (now (rows .entry)) i (now (names .entry)) (now (enums .entry)) j r ⌝ }
 {
-    let f = entry_at(doc, field(rows, i, 6), j);
+    let f = entry_at(doc, field(rows, i, 6), j, near);
     let Found::At(k) = f else {
         return Said::Nothing;
     };
@@ -154,10 +161,12 @@ pub(crate) fn say_emit<'a>(
     names: &'a [usize],
     enums: &'a [usize],
     j: usize,
+    near: Near,
 ) -> Said
+    requires { ⌜ Kept maxList (now doc) near ⌝ }
     ensures { λ r. ⌜ SaysEmit (now (doc .entry)) (now (places .entry)) (now (rows .entry)) i (now (names .entry)) (now (enums .entry)) j r ⌝ }
 {
-    let f = entry_at(doc, field(rows, i, 5), j);
+    let f = entry_at(doc, field(rows, i, 5), j, near);
     let Found::At(k) = f else {
         return Said::Nothing;
     };
@@ -175,14 +184,16 @@ pub(crate) fn say_inside<'a>(
     enums: &'a [usize],
     site: u32,
     j: usize,
+    near: Near,
 ) -> Said
+    requires { ⌜ Kept maxList (now doc) near ⌝ }
     ensures { λ r. ⌜ SaysInside (now (doc .entry)) (now (places .entry)) (now (rows .entry)) i (now (names .entry)) (now (enums .entry)) site j r ⌝ }
 {
     match site {
         9 => say_guard(doc, places, rows, i, names, enums),
         10 => say_guard_type(doc, places, rows, i, names, enums),
-        12 => say_value(doc, places, rows, i, names, enums, j),
-        _ => say_emit(doc, places, rows, i, names, enums, j),
+        12 => say_value(doc, places, rows, i, names, enums, j, near),
+        _ => say_emit(doc, places, rows, i, names, enums, j, near),
     }
 }
 
@@ -205,7 +216,9 @@ pub(crate) fn say_judged<'a>(
     enums: &'a [usize],
     site: u32,
     j: usize,
+    near: Near,
 ) -> Said
+    requires { ⌜ Kept maxList (now doc) near ⌝ }
     requires { ⌜ 1020 ≤ length (now table) ⌝ }
     ensures { λ r. ⌜ SaysJudged (now (doc .entry)) (now (places .entry)) (now (rows .entry)) i (take (2 * vars) (now (table .entry))) (now (enums .entry)) site j r ⌝ }
     ensures { λ _. ⌜ length (now (table .exit)) ≡ length (now (table .entry)) ⌝ }
@@ -219,5 +232,5 @@ pub(crate) fn say_judged<'a>(
     }
     let end = k + p.words;
     let names = &table[0..end];
-    say_inside(doc, places, rows, i, names, enums, site, j)
+    say_inside(doc, places, rows, i, names, enums, site, j, near)
 }

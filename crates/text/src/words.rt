@@ -1,5 +1,7 @@
 // The message of a finding, by its words.
+use crate::entry::Near;
 use crate::entry::entry_of;
+use crate::entry::look_up;
 use crate::said::Said;
 use crate::say::say;
 use crate::site::put_said;
@@ -13,6 +15,9 @@ use typing::after_head;
 ghost use mathlib.Core.Path.{_≡_};
 ghost use Prim.Native.Nat.{_*_, _≤_};
 ghost use lib.ListN.{length, take};
+ghost use Rattle.reading.specs.Limits.{maxList, maxModules};
+ghost use Rattle.typing.specs.Table.{afterHead, Past};
+ghost use Rattle.text.specs.Near.{Kept};
 ghost use Rattle.text.specs.Message.{saying, sayingText};
 ghost use Rattle.text.specs.Said.{sayingOf};
 ghost use Rattle.text.specs.Says.{Named, Says, SaysIn, ModuleAt, SaysWords};
@@ -31,7 +36,9 @@ pub(crate) fn say_named<'a>(
     site: u32,
     i: usize,
     j: usize,
+    near: Near,
 ) -> Said
+    requires { ⌜ Kept maxList (now doc) near ⌝ }
     requires { ⌜ 1020 ≤ length (now table) ⌝ }
     requires { ⌜ known .enums ≤ length (now enums) ⌝ }
     requires { ⌜ known .claims ≤ length (now claims) ⌝ }
@@ -55,6 +62,7 @@ pub(crate) fn say_named<'a>(
         site,
         i,
         j,
+        near,
     )
 }
 
@@ -92,6 +100,7 @@ pub(crate) fn say_opened(
         site,
         i,
         j,
+        Near::Nothing,
     )
 }
 
@@ -118,20 +127,35 @@ pub(crate) fn say_in(doc: &[u8], at: usize, site: u32, i: usize, j: usize) -> Sa
     )
 }
 
-// The place of module number k.
-pub fn module_at(doc: &[u8], k: usize) -> Found
-    ensures { λ r. ⌜ ModuleAt (now (doc .entry)) k r ⌝ }
+// The place of the list of modules.
+fn modules_at(doc: &[u8]) -> usize
+    ensures { λ r. ⌜ Past (now (doc .entry)) (afterHead (now (doc .entry)) 0) r ⌝ }
 {
     let version = after_head(doc, 0);
-    let modules = after(doc, version);
-    entry_of(doc, modules, 16, k)
+    after(doc, version)
+}
+
+// The place of module number k.
+pub fn module_at(doc: &[u8], k: usize, near: Near) -> Found
+    requires { ⌜ Kept maxModules (now doc) near ⌝ }
+    ensures { λ r. ⌜ ModuleAt (now (doc .entry)) k r ⌝ }
+{
+    entry_of(doc, modules_at(doc), 16, k, near)
+}
+
+// Looks up module number k.
+pub fn look_up_module(doc: &[u8], k: usize, near: Near) -> Near
+    requires { ⌜ Kept maxModules (now doc) near ⌝ }
+    ensures { λ r. ⌜ Kept maxModules (now (doc .entry)) r ⌝ }
+{
+    look_up(doc, modules_at(doc), 16, k, near)
 }
 
 // What is said of a finding, by its words.
 pub(crate) fn say_words(doc: &[u8], owner: usize, site: u32, i: usize, j: usize) -> Said
     ensures { λ r. ⌜ SaysWords (now (doc .entry)) owner site i j r ⌝ }
 {
-    let f = module_at(doc, owner);
+    let f = module_at(doc, owner, Near::Nothing);
     let Found::At(at) = f else {
         return Said::Nothing;
     };

@@ -1,15 +1,15 @@
--- What is still to be passed makes, with what was passed, all that stands before entry k.
+-- What is still to be passed from the start makes, with what stands before it, all that stands before entry k.
 use Prim.Native.Nat.{_-_, _≤_}
-use mathlib.Core.Path.{_≡_}
+use mathlib.Core.Path.{_≡_, refl}
 use native.Mathlib.Omega.{arith}
 use borrow.Author.Needs.{needs}
 use Rattle.text.specs.Says.{passed}
-use Rattle.text.proofs.EntryLaws.{passed-start, passed-turn, passed-done, picked-refused, picked-past, picked-here}
+use Rattle.text.proofs.EntryLaws.{passed-turn, picked-refused, picked-past, picked-here}
 use Rattle.text.proofs.entry.entry_of.Statement.{statement}
 use Rattle.text.proofs.entry.entry_of.Tie as tie
 
 abbrev Inv-loop : tie.InvT-loop
-Inv-loop doc at most k many here₀ i₀ here i = (passed (k - i) doc here ≡ passed k doc here₀) × (i ≤ k)
+Inv-loop doc at most k many here₀ i₀ here i = (passed (k - i) doc here ≡ passed (k - i₀) doc here₀) × (i ≤ k)
 
 abbrev μ-loop : tie.MeasureT-loop
 μ-loop doc at most k many here₀ i₀ here i = k - i
@@ -25,9 +25,10 @@ entry-of-spec =
     (λ c. search needs)
     (λ c. record { is = search picked-refused; each = λ i. omega (arith, c .before .before .before .shared-slice-known .given i) })
     (λ c. record { is = search picked-past; each = λ i. omega (arith, c .before .before .before .before .before .shared-slice-known .given i) })
-    (λ c. (search passed-start, omega arith))
+    (λ c κs. search needs)
+    (λ c. (refl, search needs))
     (λ c κs. search needs)
     (λ c. omega arith)
     (λ c. omega arith)
     (λ c. (search passed-turn, omega arith))
-    (λ c. record { is = search (picked-here, passed-done); each = λ i. omega (arith, c .before .before .before .before .before .before .before .shared-slice-known .given i) }))
+    (λ c. record { is = search picked-here; each = λ i. omega (arith, c .before .before .before .before .before .before .before .before .shared-slice-known .given i) }))

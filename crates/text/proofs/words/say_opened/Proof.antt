@@ -1,6 +1,7 @@
 -- The tables, then what is said by them.
 use borrow.Author.Needs.{needs}
 use native.Mathlib.Omega.{arith}
+use Rattle.text.proofs.EntryLaws.{kept-none}
 use Rattle.text.proofs.WordsLaws.{opened-said}
 use Rattle.text.proofs.words.say_opened.Statement.{statement}
 use Rattle.text.proofs.words.say_opened.Tie as tie
@@ -10,7 +11,7 @@ say-named-requires c κs =
     let n = c .before .before .before .before .before .before .before .before .before .before .before in
     let p = n .before .before .before .before .before .before .before .before .before .before .before .before .before .before .before .before .before .before .pre in
     let e = n .name-module .ensures in
-    (omega (arith, p .1 .1 .0), (omega (arith, p .1 .1 .1 .0, e .1 .1 .0), omega (arith, p .1 .1 .1 .1, e .1 .1 .1)))
+    (search kept-none, (omega (arith, p .1 .1 .0), (omega (arith, p .1 .1 .1 .0, e .1 .1 .0), omega (arith, p .1 .1 .1 .1, e .1 .1 .1))))
 
 pub say-opened-spec : {M : Type 1} → statement M
 say-opened-spec =
