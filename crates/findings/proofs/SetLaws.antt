@@ -1,9 +1,11 @@
 -- What is noted of an assignment and of a list of them, for whatever reads there.
-use Prim.Native.Nat.{ℕ, _+_, _<_, _≤_}
-use mathlib.Core.Path.{_≡_, refl, sym, ap, _∙_}
+use Prim.Native.Nat.{ℕ, _+_, _/_, _<_, _≤_}
+use mathlib.Core.Path.{_≡_, refl, sym, ap, subst, _∙_}
 use mathlib.Core.List.{List, [], _∷_}
-use mathlib.Core.Bool.{Bool, true, false}
+use mathlib.Core.Bool.{true, false}
 use mathlib.Core.Option.{Option, none, some}
+use native.Mathlib.Omega.{arith}
+use lib.ListN.{length}
 use Rattle.reading.specs.Limits.{maxList}
 use Rattle.reading.specs.Item.{readCount}
 use Rattle.reading.specs.Text.{Name}
@@ -19,16 +21,18 @@ use Rattle.reading.proofs.TransitionLaws.{assignment-laws}
 use Rattle.reading.proofs.Views.{assignment-at}
 use Rattle.reading.proofs.Walks.{name-text}
 use Rattle.typing.specs.Env.{Env, given, Agree}
-use Rattle.typing.specs.Table.{afterItem, afterHead, findIn, found, envAt, Past}
+use Rattle.typing.specs.Table.{afterItem, afterHead, findFirst, findIn, found, envAt, Past}
+use Rattle.typing.specs.Lanes.{Lanes}
 use Rattle.typing.specs.declared.table.Found.{Found}
 use Rattle.typing.specs.declared.table.Found.the-variants.{At, Nothing}
 use Rattle.typing.proofs.EnvLaws.{after-is, fields-head}
+use Rattle.typing.proofs.TableLaws.{find-all}
 use Rattle.findings.specs.Lists.{Placed}
 use Rattle.findings.specs.Finding.{Note, note}
 use Rattle.findings.specs.Errors.{setNotes}
 use Rattle.findings.specs.Noting.{Noted}
-use Rattle.findings.specs.Scene.{Reads}
 use Rattle.findings.specs.Promises.{Known, NotesTyped, NotesSet, NotesSets}
+use Rattle.findings.specs.Sets.{NotesFound}
 use Rattle.findings.proofs.EachLaws.{Walking, walk-refused, walk-more, walk-done}
 
 given-nothing : (x : Option ℕ) → found x ≡ Nothing → given x ≡ false
@@ -41,26 +45,38 @@ unfolding found given
 given-at none e = no (cc)
 given-at (some k) e = refl
 
--- whether the variable of an assignment, which stands after the head, is known
-var-given : (s : List ℕ) (at : ℕ) (vars : List ℕ) {key : ℕ} {w : Name} (b : Bool) → key ≡ afterHead s at → w ≡ textAt s key → given (findIn s w vars) ≡ b → (a : Assignment) (env : Env) → Reads readAssignment s at a → Known s vars env → given (env .vars (a .var)) ≡ b
-var-given s at vars {w} b h u q a env g z =
-    let v = assignment-at s at a (g .end) (g .is) in
-    let x : w ≡ a .var = u ∙ ap (textAt s) (h ∙ fields-head 2 s at tt (v .var) (v .opens)) ∙ name-text s (v .var) (a .var) (v .value) (v .var-is) in
-    z .of (a .var) ∙ ap (λ (y : Name). given (findIn s y vars)) (sym x) ∙ q
-
-module _ (s : List ℕ) (at i j : ℕ) (vars names enums : List ℕ) (owner : ℕ) (o : List ℕ) (skip n : ℕ) {key : ℕ} {w : Name} {f : Found} (h : key ≡ afterHead s at) (u : w ≡ textAt s key) (e : f ≡ found (findIn s w vars)) where
-  pub set-unknown : {r : ℕ} {o′ : List ℕ} → f ≡ Nothing → Noted owner o skip n (note 11 i j 0 ∷ []) r o′ → NotesSet s owner o skip n r o′ at i j vars names enums
+-- by what was found under the name of the variable, which stands after the head
+module _ (s : List ℕ) (i j : ℕ) (names enums : List ℕ) (owner : ℕ) (o : List ℕ) (skip n : ℕ) {key : ℕ} {f : Found} where
+  pub set-unknown : {r : ℕ} {o′ : List ℕ} → f ≡ Nothing → Noted owner o skip n (note 11 i j 0 ∷ []) r o′ → NotesFound s owner o skip n r o′ key f i j names enums
   unfolding setNotes
-  set-unknown q p = record { of = λ a env g k z. rw (var-given s at vars false h u (given-nothing (findIn s w vars) (sym e ∙ q)) a env g z) p }
+  set-unknown q p = record { of = λ at a env x h g k e z. rw (z ∙ given-nothing x (sym e ∙ q)) p }
 
-  pub set-known : {x k r : ℕ} {o′ : List ℕ} → f ≡ At x → Past s key k → NotesTyped s owner o skip n r o′ k names enums 12 i j → NotesSet s owner o skip n r o′ at i j vars names enums
+  pub set-known : {x k r : ℕ} {o′ : List ℕ} → f ≡ At x → Past s key k → NotesTyped s owner o skip n r o′ k names enums 12 i j → NotesFound s owner o skip n r o′ key f i j names enums
   unfolding setNotes
   set-known {k} q l p = record {
-    of = λ a env g y z.
+    of = λ at a env x h g y e z.
         let v = assignment-at s at a (g .end) (g .is) in
-        let x : k ≡ v .value = l .is ∙ ap (afterItem s) (h ∙ fields-head 2 s at tt (v .var) (v .opens)) ∙ after-is name-laws s (l .each) (v .var) (a .var) (v .value) (v .var-is) in
-        rw (var-given s at vars true h u (given-at (findIn s w vars) (sym e ∙ q)) a env g z) (p .of (a .value) env (record { end = g .end; is = ap (readTopExpr s) x ∙ v .value-is }) y);
+        let w : k ≡ v .value = l .is ∙ ap (afterItem s) (h ∙ fields-head 2 s at tt (v .var) (v .opens)) ∙ after-is name-laws s (l .each) (v .var) (a .var) (v .value) (v .var-is) in
+        rw (z ∙ given-at x (sym e ∙ q)) (p .of (a .value) env (record { end = g .end; is = ap (readTopExpr s) w ∙ v .value-is }) y);
   }
+
+  pub set-found : (at : ℕ) (vars : List ℕ) {w : Name} {r : ℕ} {o′ : List ℕ} → key ≡ afterHead s at → w ≡ textAt s key → f ≡ found (findIn s w vars) → NotesFound s owner o skip n r o′ key f i j names enums → NotesSet s owner o skip n r o′ at i j vars names enums
+  set-found at vars {w} h u e p = record {
+    of = λ a env g k z.
+        let v = assignment-at s at a (g .end) (g .is) in
+        let x : w ≡ a .var = u ∙ ap (textAt s) (h ∙ fields-head 2 s at tt (v .var) (v .opens)) ∙ name-text s (v .var) (a .var) (v .value) (v .var-is) in
+        p .of at a env (findIn s w vars) h g k e (z .of (a .var) ∙ ap (λ (y : Name). given (findIn s y vars)) (sym x));
+  }
+
+-- what stands under a name in all pairs
+pub found-all : (s : List ℕ) (w : Name) (vars : List ℕ) {f : Found} → f ≡ found (findFirst s w vars (length vars / 2)) → f ≡ found (findIn s w vars)
+found-all s w vars e = e ∙ ap found (find-all s w vars)
+
+-- the lanes of all pairs
+pub lanes-all : {s table : List ℕ} {k many : ℕ} {heads links : List ℕ} → Lanes s table k heads links → k ≤ many → many ≤ k → many ≡ length table / 2 → Lanes s table (length table / 2) heads links
+lanes-all {s} {table} {k} {heads = heads} {links = links} w a b e =
+    let q : k ≡ length table / 2 = omega arith in
+    subst (λ (m : ℕ). Lanes s table m heads links) q w
 
 -- what is known where the assignments are judged
 pub record Setting (s vars names enums : List ℕ) : Type 0 where

@@ -15,6 +15,7 @@ pub mod Scene
 pub mod Prints
 pub mod Variants
 pub mod Promises
+pub mod Sets
 pub mod PairPromises
 pub mod WarningPromises
 pub mod ModulePromises

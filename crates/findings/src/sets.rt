@@ -8,16 +8,23 @@ use typing::Found;
 use typing::after;
 use typing::after_head;
 use typing::find;
-ghost use Prim.Native.Nat.{_+_, _≤_, _^_};
+use typing::lane_add;
+use typing::lane_find;
+ghost use mathlib.Core.Path.{_≡_};
+ghost use Prim.Native.Nat.{_+_, _/_, _≤_, _^_};
+ghost use lib.ListN.{length};
+ghost use Rattle.typing.specs.Table.{findIn, found};
+ghost use Rattle.typing.specs.Lanes.{Lanes};
 ghost use Rattle.findings.specs.Promises.{NotesSet, NotesSets};
+ghost use Rattle.findings.specs.Sets.{NotesFound};
 
-// Sites 11 and 12, of assignment j of transition i: the value of an unknown variable has no type.
-pub(crate) fn note_set<'a>(
+// Sites 11 and 12, of assignment j of transition i, by what was found under its name: the value of an unknown variable has no type.
+fn note_found<'a>(
     doc: &'a [u8],
-    at: usize,
+    var: usize,
+    f: Found,
     i: u8,
     j: u8,
-    vars: &'a [usize],
     names: &'a [usize],
     enums: &'a [usize],
     out: &mut [u32],
@@ -26,13 +33,11 @@ pub(crate) fn note_set<'a>(
     owner: u32,
 ) -> usize
     requires { ⌜ n + 1 ≤ 2 ^ 40 ⌝ }
-    ensures { λ r. ⌜ NotesSet (now (doc .entry)) owner (now (out .entry)) skip n r (now (out .exit)) at i j (now (vars .entry)) (now (names .entry)) (now (enums .entry)) ⌝ }
+    ensures { λ r. ⌜ NotesFound (now (doc .entry)) owner (now (out .entry)) skip n r (now (out .exit)) var f i j (now (names .entry)) (now (enums .entry)) ⌝ }
     ensures { λ r. ⌜ r ≤ n + 1 ⌝ }
 {
     let first = i as u32;
     let second = j as u32;
-    let var = after_head(doc, at);
-    let f = find(doc, vars, text_at(doc, var));
     let Found::At(_) = f else {
         return emit(out, skip, n, owner, 11, first, second, 0);
     };
@@ -52,7 +57,173 @@ pub(crate) fn note_set<'a>(
     )
 }
 
+// The same of the assignment at a place: its variable is looked for in the table.
+fn note_set<'a>(
+    doc: &'a [u8],
+    at: usize,
+    i: u8,
+    j: u8,
+    vars: &'a [usize],
+    names: &'a [usize],
+    enums: &'a [usize],
+    out: &mut [u32],
+    skip: usize,
+    n: usize,
+    owner: u32,
+) -> usize
+    requires { ⌜ n + 1 ≤ 2 ^ 40 ⌝ }
+    ensures { λ r. ⌜ NotesSet (now (doc .entry)) owner (now (out .entry)) skip n r (now (out .exit)) at i j (now (vars .entry)) (now (names .entry)) (now (enums .entry)) ⌝ }
+    ensures { λ r. ⌜ r ≤ n + 1 ⌝ }
+{
+    let var = after_head(doc, at);
+    let f = find(doc, vars, text_at(doc, var));
+    note_found(doc, var, f, i, j, names, enums, out, skip, n, owner)
+}
+
+// Puts all pairs of a table on their lanes.
+fn add_all(doc: &[u8], table: &[usize], heads: &mut [u16], links: &mut [u16])
+    requires { ⌜ Lanes (now doc) (now table) 0 (now heads) (now links) ⌝ }
+    requires { ⌜ length (now table) ≤ 510 ⌝ }
+    requires { ⌜ length (now links) ≡ 255 ⌝ }
+    ensures { λ _. ⌜ Lanes (now (doc .entry)) (now (table .entry)) (length (now (table .entry)) / 2) (now (heads .exit)) (now (links .exit)) ⌝ }
+{
+    let many = table.len() / 2;
+    let mut k: usize = 0;
+    while k < many {
+        lane_add(doc, table, k, heads, links);
+        k += 1;
+    }
+}
+
+// What stands under a name in a table, by the lanes of all its pairs.
+fn find_on_lane<'a>(
+    doc: &'a [u8],
+    table: &'a [usize],
+    heads: &'a [u16],
+    links: &'a [u16],
+    name: &'a [u8],
+) -> Found
+    requires { ⌜ Lanes (now doc) (now table) (length (now table) / 2) (now heads) (now links) ⌝ }
+    ensures { λ r. ⌜ r ≡ found (findIn (now (doc .entry)) (now (name .entry)) (now (table .entry))) ⌝ }
+{
+    lane_find(doc, table, table.len() / 2, heads, links, name)
+}
+
+// Sites 11 and 12 of the assignment at a place, whose variable is looked for on its lane.
+fn note_on_lane<'a>(
+    doc: &'a [u8],
+    at: usize,
+    i: u8,
+    j: u8,
+    vars: &'a [usize],
+    heads: &'a [u16],
+    links: &'a [u16],
+    names: &'a [usize],
+    enums: &'a [usize],
+    out: &mut [u32],
+    skip: usize,
+    n: usize,
+    owner: u32,
+) -> usize
+    requires { ⌜ Lanes (now doc) (now vars) (length (now vars) / 2) (now heads) (now links) ⌝ }
+    requires { ⌜ n + 1 ≤ 2 ^ 40 ⌝ }
+    ensures { λ r. ⌜ NotesSet (now (doc .entry)) owner (now (out .entry)) skip n r (now (out .exit)) at i j (now (vars .entry)) (now (names .entry)) (now (enums .entry)) ⌝ }
+    ensures { λ r. ⌜ r ≤ n + 1 ⌝ }
+{
+    let var = after_head(doc, at);
+    let f = find_on_lane(doc, vars, heads, links, text_at(doc, var));
+    note_found(doc, var, f, i, j, names, enums, out, skip, n, owner)
+}
+
 // The same of each assignment of the list at a place.
+fn note_on_lanes<'a>(
+    doc: &'a [u8],
+    at: usize,
+    i: u8,
+    vars: &'a [usize],
+    heads: &'a [u16],
+    links: &'a [u16],
+    names: &'a [usize],
+    enums: &'a [usize],
+    out: &mut [u32],
+    skip: usize,
+    n: usize,
+    owner: u32,
+) -> usize
+    requires { ⌜ Lanes (now doc) (now vars) (length (now vars) / 2) (now heads) (now links) ⌝ }
+    requires { ⌜ n + 255 ≤ 2 ^ 40 ⌝ }
+    ensures { λ r. ⌜ NotesSets (now (doc .entry)) owner (now (out .entry)) skip n r (now (out .exit)) at i (now (vars .entry)) (now (names .entry)) (now (enums .entry)) ⌝ }
+    ensures { λ r. ⌜ r ≤ n + 255 ⌝ }
+{
+    let c = Cursor { at };
+    let a = c.count(doc, 255);
+    let Answer::Got(count, first) = a else {
+        return n;
+    };
+    let many = count as u8;
+    let mut k = first.at;
+    let mut j: u8 = 0;
+    let mut next = n;
+    while j < many {
+        next = note_on_lane(
+            doc,
+            k,
+            i,
+            j,
+            vars,
+            heads,
+            links,
+            names,
+            enums,
+            out,
+            skip,
+            next,
+            owner,
+        );
+        k = after(doc, k);
+        j += 1;
+    }
+    next
+}
+
+// The same of a long list: the variables are put on lanes first.
+fn note_many<'a>(
+    doc: &'a [u8],
+    at: usize,
+    i: u8,
+    vars: &'a [usize],
+    names: &'a [usize],
+    enums: &'a [usize],
+    out: &mut [u32],
+    skip: usize,
+    n: usize,
+    owner: u32,
+) -> usize
+    requires { ⌜ length (now vars) ≤ 510 ⌝ }
+    requires { ⌜ n + 255 ≤ 2 ^ 40 ⌝ }
+    ensures { λ r. ⌜ NotesSets (now (doc .entry)) owner (now (out .entry)) skip n r (now (out .exit)) at i (now (vars .entry)) (now (names .entry)) (now (enums .entry)) ⌝ }
+    ensures { λ r. ⌜ r ≤ n + 255 ⌝ }
+{
+    let mut heads = [0u16; 1024];
+    let mut links = [0u16; 255];
+    add_all(doc, vars, &mut heads, &mut links);
+    note_on_lanes(
+        doc,
+        at,
+        i,
+        vars,
+        &heads,
+        &links,
+        names,
+        enums,
+        out,
+        skip,
+        n,
+        owner,
+    )
+}
+
+// Sites 11 and 12 of each assignment of the list at a place.
 pub(crate) fn note_sets<'a>(
     doc: &'a [u8],
     at: usize,
@@ -74,6 +245,11 @@ pub(crate) fn note_sets<'a>(
     let Answer::Got(count, first) = a else {
         return n;
     };
+    if 16 <= count {
+        if vars.len() <= 510 {
+            return note_many(doc, at, i, vars, names, enums, out, skip, n, owner);
+        }
+    }
     let many = count as u8;
     let mut k = first.at;
     let mut j: u8 = 0;

@@ -1,8 +1,7 @@
--- By whether the variable is known, then by the type of the value.
+-- By what the table has under the name.
 use native.Mathlib.Omega.{arith}
 use borrow.Author.Needs.{needs}
-use Rattle.findings.proofs.NoteLaws.{note-more}
-use Rattle.findings.proofs.SetLaws.{set-unknown, set-known}
+use Rattle.findings.proofs.SetLaws.{set-found}
 use Rattle.findings.proofs.sets.note_set.Statement.{statement}
 use Rattle.findings.proofs.sets.note_set.Tie as tie
 
@@ -13,12 +12,6 @@ note-set-spec =
     (λ c κs. search needs)
     (λ c κs. search needs)
     (λ c κs. search needs)
-    (λ c. search needs)
-    (λ c. search needs)
     (λ c κs. search needs)
     (λ c. search needs)
-    (λ c. (search set-unknown, search note-more))
-    (λ c κs. search needs)
-    (λ c κs. search needs)
-    (λ c. search needs)
-    (λ c. (search set-known, omega arith)))
+    (λ c. (search set-found, omega arith)))
