@@ -6,7 +6,7 @@ use mathlib.Core.Bool.{Bool, true, false, cond, not, _&&_, _||_}
 use mathlib.Core.List.{List, [], _∷_, _++_, map}
 use mathlib.Core.Option.{Option, none, some}
 use native.Mathlib.Omega.{arith}
-use lib.ListN.{length, getD, getElem?}
+use lib.ListN.{length, getD, getElem?, take}
 use Rattle.reading.specs.Read.{pick}
 use Rattle.reading.specs.Limits.{maxList}
 use Rattle.reading.specs.Item.{readCount}
@@ -39,10 +39,12 @@ use Rattle.findings.specs.Scene.{Rows}
 use Rattle.findings.specs.Promises.{at-place}
 use Rattle.findings.specs.WarningPromises.{NotesDead}
 use Rattle.findings.specs.Uses.{variantNames, isBare, patternNames, patternBare, namedBy, bareBy, usedBy, NamesAt, VariantsAt, variants-here, variants-none, UsesOf, IsUsed, GroupKnown, unusedVariant, NotesVariant, NotesVariants, NotesGroup, NotesGroups}
+use Rattle.findings.specs.Variants.{Variants}
 use Rattle.findings.specs.declared.uses.Uses.{Uses}
 use Rattle.findings.proofs.NoteLaws.{note-as}
 use Rattle.findings.proofs.EachLaws.{Left, left-all, get-some, eachFrom, each-turn, each-done, Walking, walk-start, walk-refused, walk-more, walk-done}
 use Rattle.findings.proofs.ListLaws.{each-cong}
+use Rattle.findings.proofs.VariantLaws.{variants-front}
 
 -- the transitions that use a variant, by what their patterns give
 absent-use : (a n b : Bool) → (a || (n || (b && a))) ≡ (n || a)
@@ -92,44 +94,48 @@ found-variants (group-here e) = variants-here (record { end = _; is = e })
 found-variants group-nothing = variants-none
 
 -- a variant
-pub variant-noted : (s : List ℕ) (owner : ℕ) (o : List ℕ) (skip n r : ℕ) (o′ : List ℕ) (found : Found) (table : List ℕ) (u : Uses) (g at j : ℕ) {key : ℕ} {text : Name} {used : Bool} → key ≡ afterTag s at → text ≡ textAt s key → IsUsed s found table u text used → Noted owner o skip n (noted (not used) (note 22 g j 0)) r o′ → NotesVariant s owner o skip n r o′ found table u g at j
-variant-noted s owner o skip n r o′ found table u g at j k t i p = record {
+pub variant-noted : (s : List ℕ) (owner : ℕ) (o : List ℕ) (skip n r : ℕ) (o′ : List ℕ) (found : Found) (table : List ℕ) (bare : Bool) (g at j : ℕ) {key : ℕ} {used : Bool} → key ≡ afterTag s at → IsUsed s found table bare key used → Noted owner o skip n (noted (not used) (note 22 g j 0)) r o′ → NotesVariant s owner o skip n r o′ found table bare g at j
+variant-noted s owner o skip n r o′ found table bare g at j k i p = record {
   of = λ h x q.
-      let w = t ∙ ap (textAt s) k ∙ variant-text s at x (q .end) (q .is) in
-      note-as owner (unusedVariant u g h (at-place j x)) (ap (λ (b : Bool). noted (not b) (note 22 g j 0)) (i .of (h .variants) (h .names) (h .variants-at) (h .named) ∙ ap (usedBy (u .bare) (h .variants) (h .names)) w)) p;
+      let w = ap (textAt s) k ∙ variant-text s at x (q .end) (q .is) in
+      note-as owner (unusedVariant bare g h (at-place j x)) (ap (λ (b : Bool). noted (not b) (note 22 g j 0)) (i .of (h .variants) (h .names) (h .variants-at) (h .named) ∙ ap (usedBy bare (h .variants) (h .names)) w)) p;
 }
 
 -- variants, one after the other
-module _ (s : List ℕ) (owner : ℕ) (o : List ℕ) (skip n : ℕ) (found : Found) (table : List ℕ) (u : Uses) (g at : ℕ) where
+module _ (s : List ℕ) (owner : ℕ) (o : List ℕ) (skip n : ℕ) (found : Found) (table : List ℕ) (bare : Bool) (g at : ℕ) where
   abbrev pub VariantsLeft : (count k j r : ℕ) → List ℕ → Type 0
-  VariantsLeft = Walking readConstructorVariant (unusedVariant {s = s} {found = found} {table = table} u g) s maxList at owner o skip n
+  VariantsLeft = Walking readConstructorVariant (unusedVariant {s = s} {found = found} {table = table} bare g) s maxList at owner o skip n
 
   module _ {a : Answer} (e : a ≡ answer (readCount maxList s at)) where
-    pub variants-refused : {t : Fault} {p : ℕ} → a ≡ Refused t p → NotesVariants s owner o skip n n o found table u g at
-    variants-refused q = record { of = λ h xs r. walk-refused readConstructorVariant (unusedVariant {s = s} {found = found} {table = table} u g) s maxList at owner o skip n e q xs r }
+    pub variants-refused : {t : Fault} {p : ℕ} → a ≡ Refused t p → NotesVariants s owner o skip n n o found table bare g at
+    variants-refused q = record { of = λ h xs r. walk-refused readConstructorVariant (unusedVariant {s = s} {found = found} {table = table} bare g) s maxList at owner o skip n e q xs r }
 
     pub variants-start : {count : ℕ} {c : Cursor} → a ≡ Got count c → VariantsLeft count (c .at) 0 n o
-    variants-start q = walk-start readConstructorVariant (unusedVariant {s = s} {found = found} {table = table} u g) s maxList at owner o skip n e q
+    variants-start q = walk-start readConstructorVariant (unusedVariant {s = s} {found = found} {table = table} bare g) s maxList at owner o skip n e q
 
   module _ {count k j r : ℕ} {o′ : List ℕ} (w : VariantsLeft count k j r o′) where
-    pub variants-more : {k′ r′ : ℕ} {o″ : List ℕ} → j < count → NotesVariant s owner o′ skip r r′ o″ found table u g k j → Past s k k′ → VariantsLeft count k′ (j + 1) r′ o″
-    variants-more b p t = walk-more readConstructorVariant (unusedVariant {s = s} {found = found} {table = table} u g) s maxList at owner o skip n w b (p .of) (λ x e q. t .is ∙ after-is constructor-variant-laws s (t .each) k x e q)
+    pub variants-more : {k′ r′ : ℕ} {o″ : List ℕ} → j < count → NotesVariant s owner o′ skip r r′ o″ found table bare g k j → Past s k k′ → VariantsLeft count k′ (j + 1) r′ o″
+    variants-more b p t = walk-more readConstructorVariant (unusedVariant {s = s} {found = found} {table = table} bare g) s maxList at owner o skip n w b (p .of) (λ x e q. t .is ∙ after-is constructor-variant-laws s (t .each) k x e q)
 
-    pub variants-done : count ≤ j → NotesVariants s owner o skip n r o′ found table u g at
-    variants-done b = record { of = λ h xs q. walk-done readConstructorVariant (unusedVariant {s = s} {found = found} {table = table} u g) s maxList at owner o skip n w b h xs q }
+    pub variants-done : count ≤ j → NotesVariants s owner o skip n r o′ found table bare g at
+    variants-done b = record { of = λ h xs q. walk-done readConstructorVariant (unusedVariant {s = s} {found = found} {table = table} bare g) s maxList at owner o skip n w b h xs q }
+
+-- by the first words of a table
+pub front-noted : (s : List ℕ) (owner : ℕ) (o : List ℕ) (skip n r : ℕ) (o′ : List ℕ) (found : Found) (table : List ℕ) (k : ℕ) (bare : Bool) (g at : ℕ) → NotesVariants s owner o skip n r o′ found (take (k - 0) table) bare g at → NotesVariants s owner o skip n r o′ found (take k table) bare g at
+front-noted s owner o skip n r o′ found table k bare g at p = let z : k - 0 ≡ k = omega arith in rw z at p
 
 -- a group
-pub group-noted : (s : List ℕ) (owner : ℕ) (o : List ℕ) (skip n r : ℕ) (o′ rows : List ℕ) (count : ℕ) (groups : List ℕ) (g : ℕ) {text text₂ : Name} {table : List ℕ} {u : Uses} {found : Found} → text ≡ textAt s (getD groups (2 * g) 0) → UsesOf s rows count text table u → text₂ ≡ textAt s (getD groups (2 * g) 0) → FirstVariants s groups text₂ found → NotesVariants s owner o skip n r o′ found table u g (getD groups (2 * g + 1) 0) → NotesGroup s owner o skip n r o′ rows count groups g
+pub group-noted : (s : List ℕ) (owner : ℕ) (o : List ℕ) (skip n r : ℕ) (o′ rows : List ℕ) (count : ℕ) (groups : List ℕ) (g : ℕ) {text text₂ : Name} {table : List ℕ} {u : Uses} {found : Found} → text ≡ textAt s (getD groups (2 * g) 0) → UsesOf s rows count text table u → text₂ ≡ textAt s (getD groups (2 * g) 0) → FirstVariants s groups text₂ found → NotesVariants s owner o skip n r o′ found (take (2 * u .named) table) (u .bare) g (getD groups (2 * g + 1) 0) → NotesGroup s owner o skip n r o′ rows count groups g
 unfolding deadIn groupVariants
 group-noted s owner o skip n r o′ rows count groups g {text} {text₂} {table} {u} {found} t y t₂ z p = record {
   of = λ gs x ts c e w q.
       let a : text ≡ x .name = t ∙ c .name-is g x e in
       let b : text₂ ≡ x .name = t₂ ∙ c .name-is g x e in
-      let h : GroupKnown s found table u = record {
+      let h : GroupKnown s found (take (2 * u .named) table) = record {
         variants = groupVariants (firstCalled groupName (x .name) gs);
         names = namedBy (x .name) ts;
         variants-at = found-variants (subst (λ (v : Name). GroupFound s found (firstCalled groupName v gs)) b (z .of gs c));
-        named = subst (λ (v : Name). NamesAt s table (u .named) (namedBy v ts)) a (y .names ts w q);
+        named = front (namedBy (x .name) ts) (subst (λ (v : Name). NamesAt s table (u .named) (namedBy v ts)) a (y .names ts w q));
       } in
       let m : u .bare ≡ bareBy (x .name) ts = y .bare ts w q ∙ ap (λ (v : Name). bareBy v ts) a in
       note-as owner _
@@ -137,6 +143,9 @@ group-noted s owner o skip n r o′ rows count groups g {text} {text₂} {table}
       ∙ each-placed declaredName (λ v. noted (not (any (usesEvent gs (x .name) (v .item)) ts)) (note 22 g (v .place) 0)) 0 (x .variants))
       (p .of h (x .variants) (record { end = c .variants-are g x e .0; is = c .variants-are g x e .1 }));
 }
+  where
+    front : (ns : List Name) → NamesAt s table (u .named) ns → Variants s (take (2 * u .named) table) ns
+    front ns n = variants-front s table ns (n .many) refl (n .room) (n .at)
 
 -- groups, one after the other
 module _ (s : List ℕ) (owner : ℕ) (o : List ℕ) (skip n : ℕ) (rows : List ℕ) (count : ℕ) (groups : List ℕ) (many : ℕ) where

@@ -1,5 +1,5 @@
 -- The variants that patterns of a group use: what each pattern adds, and what the answers say.
-use Prim.Native.Nat.{ℕ, zero, suc, _+_, _-_, _<_, _≤_}
+use Prim.Native.Nat.{ℕ, zero, suc, _+_, _-_, _*_, _<_, _≤_}
 use mathlib.Core.Path.{_≡_, refl, sym, ap, subst, _∙_}
 use mathlib.Core.Logic.{_⊎_, inl, inr}
 use mathlib.Core.Bool.{Bool, true, false, _&&_, _||_}
@@ -7,8 +7,8 @@ use mathlib.Core.List.{List, [], _∷_, _++_, map, append-assoc, append-nil}
 use mathlib.Core.Option.{none, some}
 use native.Mathlib.Omega.{arith}
 use borrow.Author.Tests.{ltb-true, ltb-false}
-use lib.ListN.{length, getD, getElem?, set, drop, length-append, drop-of-length-le}
-use lib.Seq.{getD-set-same, getD-set-other}
+use lib.ListN.{length, getD, getElem?, drop, length-append, drop-of-length-le}
+use lib.Seq.{length-sets}
 use lib.Dec.{eqb, ltb}
 use Rattle.reading.specs.Read.{pick, Read}
 use Rattle.reading.specs.Limits.{maxList}
@@ -39,13 +39,15 @@ use Rattle.typing.proofs.NameLaws.{eqName-eq}
 use Rattle.findings.specs.Lists.{each}
 use Rattle.findings.specs.Scene.{Reads, field, Rows}
 use Rattle.findings.specs.Classes.{Tabled}
-use Rattle.findings.specs.Uses.{variantNames, isBare, patternNames, patternBare, namedBy, bareBy, NamesAt, VariantsAt, variants-here, variants-none, AddsVariant, AddsUse, GroupPrint, NextMarked, UsesOf, IsNamed, HasVariant, IsUsed}
+use Rattle.findings.specs.Uses.{variantNames, isBare, patternNames, patternBare, namedBy, bareBy, usedBy, NamesAt, VariantsAt, variants-here, variants-none, AddsVariant, AddsUse, GroupPrint, NextMarked, UsesOf, HasVariant, IsUsed}
+use Rattle.findings.specs.Variants.{VariantAt, Variants, putVariant, IsVariant}
 use Rattle.findings.specs.declared.uses.Uses.{Uses}
 use Rattle.findings.proofs.EachLaws.{get-some, drop-get}
 use Rattle.findings.proofs.OptionLaws.{not-given, is-given}
 use Rattle.findings.proofs.PairTests.{isn't}
+use Rattle.findings.proofs.VariantLaws.{variant-put, variant-kept}
 
--- a name more, whose place goes to the next word
+-- a name more, whose words go behind those of the others
 get-append : {A : Type 0} (xs : List A) (y : A) (k : ℕ) (x : A) → getElem? (xs ++ (y ∷ [])) k ≡ some x → ((k ≡ length xs) × (y ≡ x)) ⊎ ((k < length xs) × (getElem? xs k ≡ some x))
 get-append [] y zero x e = inl (refl, cc)
 get-append [] y (suc k) x e = no (cc)
@@ -56,15 +58,16 @@ get-append (z ∷ xs) y (suc k) x e = go (get-append xs y k x e)
     go (inl (p, q)) = inl (ap suc p, q)
     go (inr (p, q)) = inr (omega arith, q)
 
-pub named-more : (s table : List ℕ) (c : ℕ) (ns : List Name) (key : ℕ) (w : Name) → NamesAt s table c ns → c < length table → textAt s key ≡ w → NamesAt s (set table c key) (c + 1) (ns ++ (w ∷ []))
+pub named-more : (s table : List ℕ) (c : ℕ) (ns : List Name) (key : ℕ) (w : Name) → NamesAt s table c ns → 2 * c + 1 < length table → textAt s key ≡ w → NamesAt s (putVariant s key c table) (c + 1) (ns ++ (w ∷ []))
 named-more s table c ns key w g h e = record {
   many = let m = g .many in omega (arith, length-append ns (w ∷ []));
+  room = omega (arith, length-sets table (2 * c) (print 0 (textAt s key) ∷ key ∷ []));
   at = λ k x q. go k x (get-append ns w k x q);
 }
   where
-    go : (k : ℕ) (x : Name) → ((k ≡ length ns) × (w ≡ x)) ⊎ ((k < length ns) × (getElem? ns k ≡ some x)) → textAt s (getD (set table c key) k 0) ≡ x
-    go k x (inl (p, q)) = ap (λ (i : ℕ). textAt s (getD (set table c key) i 0)) (p ∙ sym (g .many)) ∙ ap (textAt s) (getD-set-same table c key 0 h) ∙ e ∙ q
-    go k x (inr (p, q)) = ap (textAt s) (getD-set-other table c k key 0 (λ i. let m = g .many in omega arith)) ∙ g .at k x q
+    go : (k : ℕ) (x : Name) → ((k ≡ length ns) × (w ≡ x)) ⊎ ((k < length ns) × (getElem? ns k ≡ some x)) → VariantAt s (putVariant s key c table) k x
+    go k x (inl (p, q)) = let i : k ≡ c = p ∙ sym (g .many) in rw i (variant-put s table key c h x (e ∙ q))
+    go k x (inr (p, q)) = variant-kept s table key c h k x (let m = g .many in omega arith) (g .at k x q)
 
 pub named-as : (s table : List ℕ) (c : ℕ) {xs : List Name} (ys : List Name) → xs ≡ ys → NamesAt s table c xs → NamesAt s table c ys
 named-as s table c ys e g = subst (NamesAt s table c) e g
@@ -96,7 +99,7 @@ module _ (s : List ℕ) (at : ℕ) (table : List ℕ) (u : Uses) {b : Bool} (e :
     bare = λ w g. rw (not-given readPatternVariant s at g e q) (or-true (u .bare));
   }
 
-  pub variant-present : {key : ℕ} {table′ : List ℕ} → b ≡ false → u .named < 255 → length table ≡ 256 → key ≡ afterTag s at → table′ ≡ set table (u .named) key → AddsVariant s at table u table′ (record { named = u .named + 1; bare = u .bare })
+  pub variant-present : {key : ℕ} {table′ : List ℕ} → b ≡ false → u .named < 255 → length table ≡ 510 → key ≡ afterTag s at → table′ ≡ putVariant s key (u .named) table → AddsVariant s at table u table′ (record { named = u .named + 1; bare = u .bare })
   unfolding variantNames isBare
   variant-present {key} {table′} q h l k t = record {
     few = omega arith;
@@ -166,7 +169,7 @@ module _ (s rows : List ℕ) (count : ℕ) (g : Name) where
   uses-start : (table : List ℕ) → UsesLeft table 0 (record { named = 0; bare = false })
   uses-start table = record {
     few = omega arith;
-    names = λ ts w q. ([], record { many = refl; at = λ k x e. no (cc) }, refl);
+    names = λ ts w q. ([], record { many = refl; room = omega arith; at = λ k x e. no (cc) }, refl);
     bare = λ ts w q. refl;
   }
 
@@ -221,36 +224,6 @@ module _ (s rows : List ℕ) (count : ℕ) (g : Name) where
     pub uses-turn : {table : List ℕ} {i : ℕ} {u : Uses} {at : ℕ} {table′ : List ℕ} {u′ : Uses} {r : ℕ} → UsesLeft table i u → i < count → at ≡ field rows i 2 → AddsUse s at g table u table′ u′ → NextMarked marks mark (i + 1) r → r ≤ count → UsesLeft table′ r u′
     uses-turn {table} {i} {u} l h q a w b = uses-skip (uses-more table i u l h (rw q at a)) w b
 
--- a name among those whose places stand in a table
-module _ (s table : List ℕ) (count : ℕ) (w : Name) where
-  pub record NamesLeft (k : ℕ) : Type 0 where
-    pub of : (ns : List Name) → NamesAt s table count ns → member w (drop k ns) ≡ member w ns
-
-  pub names-start : NamesLeft 0
-  names-start = record { of = λ ns n. refl }
-
-  module _ (k : ℕ) (l : NamesLeft k) where
-    pub names-done : count ≤ k → IsNamed s table count w false
-    unfolding member
-    names-done h = record { of = λ ns n. let m = n .many in ap (member w) (sym (drop-of-length-le ns {i = k} (omega arith))) ∙ l .of ns n }
-
-    module _ {key : ℕ} {text : Name} {b : Bool} (h : k < count) (e : key ≡ getD table k 0) (t : text ≡ textAt s key) (q : b ≡ eqName text w) where
-      here : (ns : List Name) → NamesAt s table count ns → member w ns ≡ pick b true (member w (drop (k + 1) ns))
-      unfolding member
-      here ns n =
-          let m = n .many in
-          let x = get-some ns k (omega arith) in
-          let i : eqName (x .0) w ≡ b = sym (q ∙ ap (λ (y : Name). eqName y w) (t ∙ ap (textAt s) e ∙ n .at k (x .0) (x .1))) in
-          sym (l .of ns n) ∙ ap (member w) (drop-get ns k (x .0) (x .1)) ∙ ap (λ (y : Bool). pick y true (member w (drop (k + 1) ns))) i
-
-      pub names-hit : b ≡ true → IsNamed s table count w true
-      unfolding pick
-      names-hit z = record { of = λ ns n. sym (here ns n ∙ ap (λ (y : Bool). pick y true (member w (drop (k + 1) ns))) z) }
-
-      pub names-miss : b ≡ false → NamesLeft (k + 1)
-      unfolding pick
-      names-miss z = record { of = λ ns n. sym (here ns n ∙ ap (λ (y : Bool). pick y true (member w (drop (k + 1) ns))) z) }
-
 -- a variant among those of a list that was found
 called-member : (w : Name) (xs : List ConstructorVariant) → firstCalled declaredName w xs ≡ none → member w (map declaredName xs) ≡ false
 unfolding firstCalled called firstOf member pick
@@ -299,12 +272,15 @@ module _ (s : List ℕ) {f : Found} (w : Name) where
           sym (ap (member w) (x .1) ∙ called-member w (x .0) (found-no (h .of (x .0) (x .2 .end) (x .2 .is)) z));
     }
 
-module _ (s : List ℕ) (f : Found) (table : List ℕ) (u : Uses) (w : Name) {b : Bool} (n : IsNamed s table (u .named) w b) where
-  pub used-named : b ≡ true → IsUsed s f table u w true
-  used-named q = record { of = λ vs ns g k. sym (ap (λ (x : Bool). x || (u .bare && member w vs)) (sym (n .of ns k) ∙ q)) }
+module _ (s : List ℕ) (f : Found) (table : List ℕ) (bare : Bool) (at : ℕ) {w : Name} {p : ℕ} {b : Bool} (t : w ≡ textAt s at) (e : p ≡ print 0 w) (n : IsVariant s table at p b) where
+  by-name : (x : Bool) → b ≡ x → (vs ns : List Name) → Variants s table ns → (x || (bare && member w vs)) ≡ usedBy bare vs ns (textAt s at)
+  by-name x q vs ns k = rw (sym t) (ap (λ (y : Bool). y || (bare && member w vs)) (sym q ∙ n .of ns w k (sym t) e))
 
-  pub used-bare : {r : Bool} → b ≡ false → u .bare ≡ true → HasVariant s f w r → IsUsed s f table u w r
-  used-bare q z h = record { of = λ vs ns g k. sym (ap (λ (x : Bool). x || (u .bare && member w vs)) (sym (n .of ns k) ∙ q) ∙ ap (λ (x : Bool). x && member w vs) z ∙ sym (h .of vs g)) }
+  pub used-named : b ≡ true → IsUsed s f table bare at true
+  used-named q = record { of = λ vs ns g k. by-name true q vs ns k }
 
-  pub used-not : b ≡ false → u .bare ≡ false → IsUsed s f table u w false
-  used-not q z = record { of = λ vs ns g k. sym (ap (λ (x : Bool). x || (u .bare && member w vs)) (sym (n .of ns k) ∙ q) ∙ ap (λ (x : Bool). x && member w vs) z) }
+  pub used-bare : {r : Bool} → b ≡ false → bare ≡ true → HasVariant s f w r → IsUsed s f table bare at r
+  used-bare q z h = record { of = λ vs ns g k. h .of vs g ∙ ap (λ (y : Bool). y && member w vs) (sym z) ∙ by-name false q vs ns k }
+
+  pub used-not : b ≡ false → bare ≡ false → IsUsed s f table bare at false
+  used-not q z = record { of = λ vs ns g k. ap (λ (y : Bool). y && member w vs) (sym z) ∙ by-name false q vs ns k }

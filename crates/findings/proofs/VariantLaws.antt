@@ -1,4 +1,4 @@
--- The table of the State variants while it is filled, name by name; and a name looked up in it: equal names have equal prints.
+-- A table of names while it is filled, name by name; and a name looked up in it: equal names have equal prints.
 use Prim.Native.Nat.{ℕ, zero, suc, _+_, _*_, _/_, _<_, _≤_}
 use mathlib.Core.Path.{_≡_, refl, sym, ap, ap₂, subst, _∙_}
 use mathlib.Core.List.{List, [], _∷_}
@@ -40,7 +40,7 @@ use Rattle.findings.specs.Finding.{note, noted}
 use Rattle.findings.specs.Noting.{Noted}
 use Rattle.findings.specs.Errors.{unknownState}
 use Rattle.findings.specs.Scene.{Reads, StatesAt, states-here, states-none}
-use Rattle.findings.specs.Variants.{VariantAt, Variants, NamesFilled, StatesFilled, StandsAt, IsVariant, Hinted}
+use Rattle.findings.specs.Variants.{VariantAt, Variants, putVariant, NamesFilled, StatesFilled, StandsAt, IsVariant, Hinted}
 use Rattle.findings.specs.Promises.{NotesVariant}
 use Rattle.findings.proofs.PlaceLaws.{entry-at, entry-below, drop-entry}
 use Rattle.findings.proofs.NoteLaws.{note-as}
@@ -64,8 +64,35 @@ module _ (p : List ℕ) (j : ℕ) (h : 2 * j + 1 < length p) (a b : ℕ) where
       let y : k ≢ 2 * j = λ q. omega arith in
       getD-set-other (set p (2 * j) a) (suc (2 * j)) k b 0 x ∙ getD-set-other p (2 * j) k a 0 y
 
-pub put-variant : (s table : List ℕ) (at j : ℕ) {p : ℕ} {x : List ℕ} → p ≡ print 0 x → x ≡ textAt s at → set (set table (2 * j) p) (2 * j + 1) at ≡ sets table (2 * j) (print 0 (textAt s at) ∷ at ∷ [])
+pub put-variant : (s table : List ℕ) (at j : ℕ) {p : ℕ} {x : List ℕ} → p ≡ print 0 x → x ≡ textAt s at → set (set table (2 * j) p) (2 * j + 1) at ≡ putVariant s at j table
 put-variant s table at j e q = rw (e, q, add-one)
+
+-- the table with the name at k as number j
+module _ (s table : List ℕ) (k j : ℕ) (h : 2 * j + 1 < length table) where
+  pub variant-put : (w : Name) → textAt s k ≡ w → VariantAt s (putVariant s k j table) j w
+  variant-put w e = record {
+    print-is = put-print table j h _ _ ∙ ap (print 0) e;
+    name-is = ap (textAt s) (put-place table j h _ _) ∙ e;
+  }
+
+  pub variant-kept : (i : ℕ) (w : Name) → i < j → VariantAt s table i w → VariantAt s (putVariant s k j table) i w
+  variant-kept i w l y = record {
+    print-is = put-before table j h _ _ (2 * i) (omega arith) ∙ y .print-is;
+    name-is = ap (textAt s) (put-before table j h _ _ (2 * i + 1) (omega arith)) ∙ y .name-is;
+  }
+
+-- the first words of a table
+pub variants-front : (s table : List ℕ) (vs : List Name) {many words : ℕ} → many ≡ length vs → words ≡ 2 * many → words ≤ length table → ((i : ℕ) (x : Name) → getElem? vs i ≡ some x → VariantAt s table i x) → Variants s (take words table) vs
+variants-front s table vs {many} {words} m e room f = record {
+  room = length-take-le words table room ∙ e ∙ ap (λ (x : ℕ). 2 * x) m;
+  at = λ i x g.
+      let l = entry-below vs i x g in
+      let y = f i x g in
+      record {
+        print-is = getD-take words table (2 * i) 0 (omega arith) ∙ y .print-is;
+        name-is = ap (textAt s) (getD-take words table (2 * i + 1) 0 (omega arith)) ∙ y .name-is;
+      };
+}
 
 module _ (s : List ℕ) (at : ℕ) where
   -- the names before number j have their words; name number j stands at k
@@ -99,7 +126,7 @@ module _ (s : List ℕ) (at : ℕ) where
     }
 
   module _ {many k j : ℕ} {table : List ℕ} (w : VariantsSoFar many k j table) where
-    pub names-more : {k′ : ℕ} {table′ : List ℕ} → j < many → many ≤ 255 → 510 ≤ length table → table′ ≡ sets table (2 * j) (print 0 (textAt s k) ∷ k ∷ []) → Past s k k′ → VariantsSoFar many k′ (j + 1) table′
+    pub names-more : {k′ : ℕ} {table′ : List ℕ} → j < many → many ≤ 255 → 510 ≤ length table → table′ ≡ putVariant s k j table → Past s k k′ → VariantsSoFar many k′ (j + 1) table′
     names-more {k′} {table′} b few room e t = record { of = λ vs g. go vs (w .of vs g) }
       where
         go : (vs : List Name) → Listing vs many k j table → Listing vs many k′ (j + 1) table′
@@ -123,35 +150,17 @@ module _ (s : List ℕ) (at : ℕ) where
                 let d = drop-entry vs j x (rw q at f) in
                 let z = u .split in
                 let y : u .entry ≡ x = cc in
-                let n = name-text s k (u .entry) (u .end) (u .here) ∙ y in
-                rw q (record {
-                  print-is = ap (λ (r : List ℕ). getD r (2 * j) 0) e ∙ put-print table j bound _ _ ∙ ap (print 0) n;
-                  name-is = ap (λ (r : List ℕ). textAt s (getD r (2 * j + 1) 0)) e ∙ ap (textAt s) (put-place table j bound _ _) ∙ n;
-                })
+                rw (q, e) (variant-put s table k j bound x (name-text s k (u .entry) (u .end) (u .here) ∙ y))
 
             earlier : (i : ℕ) (x : Name) → i < j → getElem? vs i ≡ some x → VariantAt s table′ i x
-            earlier i x l f =
-                let y = v .before i x l f in
-                record {
-                  print-is = ap (λ (r : List ℕ). getD r (2 * i) 0) e ∙ put-before table j bound _ _ (2 * i) (omega arith) ∙ y .print-is;
-                  name-is = ap (λ (r : List ℕ). textAt s (getD r (2 * i + 1) 0)) e ∙ ap (textAt s) (put-before table j bound _ _ (2 * i + 1) (omega arith)) ∙ y .name-is;
-                }
+            earlier i x l f = rw e (variant-kept s table k j bound i x l (v .before i x l f))
 
     pub names-done : {words : ℕ} → many ≤ j → many ≤ 255 → 510 ≤ length table → words ≡ 2 * many → NamesFilled s at words table
     names-done {words} b few room e = record {
       of = λ vs g.
           let v = w .of vs g in
           let m = v .as-many in
-          record {
-            room = length-take-le words table (omega arith) ∙ e ∙ ap (λ (x : ℕ). 2 * x) m;
-            at = λ i x f.
-                let l = entry-below vs i x f in
-                let y = v .before i x (omega arith) f in
-                record {
-                  print-is = getD-take words table (2 * i) 0 (omega arith) ∙ y .print-is;
-                  name-is = ap (textAt s) (getD-take words table (2 * i + 1) 0 (omega arith)) ∙ y .name-is;
-                };
-          };
+          variants-front s table vs m e (omega arith) (λ i x f. let l = entry-below vs i x f in v .before i x (omega arith) f);
     }
 
 -- the State variants

@@ -25,6 +25,7 @@ use Rattle.typing.specs.Lanes.{print}
 use Rattle.findings.specs.Warnings.{deadIn, dead}
 use Rattle.findings.specs.Noting.{Noted}
 use Rattle.findings.specs.Scene.{Reads, field, Rows}
+use Rattle.findings.specs.Variants.{VariantAt, Variants}
 use Rattle.findings.specs.Promises.{at-place}
 use Rattle.findings.specs.declared.uses.Uses.{Uses}
 
@@ -54,10 +55,11 @@ bareBy g ts = any (λ t. patternBare g (t .pattern)) ts
 abbrev pub usedBy : Bool → List Name → List Name → Name → Bool
 usedBy bare vs ns v = member v ns || (bare && member v vs)
 
--- the first words of a table are the places of names
+-- the first words of a table are those of so many names
 pub record NamesAt (s table : List ℕ) (count : ℕ) (ns : List Name) : Type 0 where
   pub many : count ≡ length ns
-  pub at : (k : ℕ) (w : Name) → getElem? ns k ≡ some w → textAt s (getD table k 0) ≡ w
+  pub room : 2 * count ≤ length table
+  pub at : (k : ℕ) (w : Name) → getElem? ns k ≡ some w → VariantAt s table k w
 
 -- the names of the variants of a list that was found
 pub data VariantsAt (s : List ℕ) : Found → List Name → Type 0 where
@@ -89,32 +91,29 @@ pub record UsesOf (s rows : List ℕ) (count : ℕ) (g : Name) (table : List ℕ
   pub bare : (ts : List Transition) → Rows s rows ts → count ≡ length ts → u .bare ≡ bareBy g ts
 
 -- questions
-pub record IsNamed (s table : List ℕ) (count : ℕ) (w : Name) (r : Bool) : Type 0 where
-  pub of : (ns : List Name) → NamesAt s table count ns → r ≡ member w ns
-
 pub record HasVariant (s : List ℕ) (found : Found) (w : Name) (r : Bool) : Type 0 where
   pub of : (vs : List Name) → VariantsAt s found vs → r ≡ member w vs
 
-pub record IsUsed (s : List ℕ) (found : Found) (table : List ℕ) (u : Uses) (w : Name) (r : Bool) : Type 0 where
-  pub of : (vs ns : List Name) → VariantsAt s found vs → NamesAt s table (u .named) ns → r ≡ usedBy (u .bare) vs ns w
+pub record IsUsed (s : List ℕ) (found : Found) (table : List ℕ) (bare : Bool) (at : ℕ) (r : Bool) : Type 0 where
+  pub of : (vs ns : List Name) → VariantsAt s found vs → Variants s table ns → r ≡ usedBy bare vs ns (textAt s at)
 
 -- what is known of a group's uses: the variants of the first group of its name, and the names that patterns give
-pub record GroupKnown (s : List ℕ) (found : Found) (table : List ℕ) (u : Uses) : Type 0 where
+pub record GroupKnown (s : List ℕ) (found : Found) (table : List ℕ) : Type 0 where
   pub variants : List Name
   pub names : List Name
   pub variants-at : VariantsAt s found variants
-  pub named : NamesAt s table (u .named) names
+  pub named : Variants s table names
 
 -- a variant of group g, by what is known
-abbrev pub unusedVariant : {s : List ℕ} {found : Found} {table : List ℕ} (u : Uses) → ℕ → GroupKnown s found table u → Placed ConstructorVariant → List Note
-unusedVariant u g h v = noted (not (usedBy (u .bare) (h .variants) (h .names) (declaredName (v .item)))) (note 22 g (v .place) 0)
+abbrev pub unusedVariant : {s : List ℕ} {found : Found} {table : List ℕ} → Bool → ℕ → GroupKnown s found table → Placed ConstructorVariant → List Note
+unusedVariant bare g h v = noted (not (usedBy bare (h .variants) (h .names) (declaredName (v .item)))) (note 22 g (v .place) 0)
 
 module _ (s : List ℕ) (owner : ℕ) (o : List ℕ) (skip n r : ℕ) (o′ : List ℕ) where
-  pub record NotesVariant (found : Found) (table : List ℕ) (u : Uses) (g at j : ℕ) : Type 0 where
-    pub of : (h : GroupKnown s found table u) (x : ConstructorVariant) → Reads readConstructorVariant s at x → Noted owner o skip n (unusedVariant u g h (at-place j x)) r o′
+  pub record NotesVariant (found : Found) (table : List ℕ) (bare : Bool) (g at j : ℕ) : Type 0 where
+    pub of : (h : GroupKnown s found table) (x : ConstructorVariant) → Reads readConstructorVariant s at x → Noted owner o skip n (unusedVariant bare g h (at-place j x)) r o′
 
-  pub record NotesVariants (found : Found) (table : List ℕ) (u : Uses) (g at : ℕ) : Type 0 where
-    pub of : (h : GroupKnown s found table u) (xs : List ConstructorVariant) → Reads (listOf maxList readConstructorVariant) s at xs → Noted owner o skip n (each (unusedVariant u g h) (placed 0 xs)) r o′
+  pub record NotesVariants (found : Found) (table : List ℕ) (bare : Bool) (g at : ℕ) : Type 0 where
+    pub of : (h : GroupKnown s found table) (xs : List ConstructorVariant) → Reads (listOf maxList readConstructorVariant) s at xs → Noted owner o skip n (each (unusedVariant bare g h) (placed 0 xs)) r o′
 
   -- group g of a table of groups, and all of them
   module _ (rows : List ℕ) (count : ℕ) (groups : List ℕ) where

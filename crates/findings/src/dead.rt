@@ -13,7 +13,7 @@ use typing::after_tag;
 use typing::first_variants;
 ghost use mathlib.Core.Path.{_≡_};
 ghost use Prim.Native.Nat.{_+_, _*_, _<_, _≤_, _^_};
-ghost use lib.ListN.{length};
+ghost use lib.ListN.{length, take};
 ghost use Rattle.findings.specs.Classes.{Tabled};
 ghost use Rattle.findings.specs.Uses.{GroupPrint, NotesVariant, NotesVariants, NotesGroup, NotesGroups};
 ghost use Rattle.findings.specs.WarningPromises.{NotesDead};
@@ -23,8 +23,9 @@ pub(crate) fn note_variant<'a>(
     doc: &'a [u8],
     at: usize,
     found: Found,
-    table: &'a [usize],
-    u: Uses,
+    names: &'a [usize],
+    hints: &'a [u8; 256],
+    bare: bool,
     g: u32,
     j: u32,
     out: &mut [u32],
@@ -33,11 +34,11 @@ pub(crate) fn note_variant<'a>(
     owner: u32,
 ) -> usize
     requires { ⌜ n < 2 ^ 40 ⌝ }
-    ensures { λ r. ⌜ NotesVariant (now (doc .entry)) owner (now (out .entry)) skip n r (now (out .exit)) found (now (table .entry)) u g at j ⌝ }
+    ensures { λ r. ⌜ NotesVariant (now (doc .entry)) owner (now (out .entry)) skip n r (now (out .exit)) found (now (names .entry)) bare g at j ⌝ }
     ensures { λ r. ⌜ r ≤ n + 1 ⌝ }
 {
     let key = after_tag(doc, at);
-    let used = is_used(doc, found, table, u, text_at(doc, key));
+    let used = is_used(doc, found, names, hints, bare, key);
     emit_if(!used, out, skip, n, owner, 22, g, j)
 }
 
@@ -46,8 +47,9 @@ pub(crate) fn note_variants<'a>(
     doc: &'a [u8],
     at: usize,
     found: Found,
-    table: &'a [usize],
-    u: Uses,
+    names: &'a [usize],
+    hints: &'a [u8; 256],
+    bare: bool,
     g: u32,
     out: &mut [u32],
     skip: usize,
@@ -55,7 +57,7 @@ pub(crate) fn note_variants<'a>(
     owner: u32,
 ) -> usize
     requires { ⌜ n + 255 ≤ 2 ^ 40 ⌝ }
-    ensures { λ r. ⌜ NotesVariants (now (doc .entry)) owner (now (out .entry)) skip n r (now (out .exit)) found (now (table .entry)) u g at ⌝ }
+    ensures { λ r. ⌜ NotesVariants (now (doc .entry)) owner (now (out .entry)) skip n r (now (out .exit)) found (now (names .entry)) bare g at ⌝ }
     ensures { λ r. ⌜ r ≤ n + 255 ⌝ }
 {
     let c = Cursor { at };
@@ -67,14 +69,62 @@ pub(crate) fn note_variants<'a>(
     let mut m = n;
     let mut j: u64 = 0;
     while j < count {
-        m = note_variant(doc, k, found, table, u, g, j as u32, out, skip, m, owner);
+        m = note_variant(
+            doc,
+            k,
+            found,
+            names,
+            hints,
+            bare,
+            g,
+            j as u32,
+            out,
+            skip,
+            m,
+            owner,
+        );
         k = after(doc, k);
         j += 1;
     }
     m
 }
 
-// Those of group g, by a table of the groups and the prints of the patterns' groups; uses is room for the places of names.
+// The same, by what the patterns of the group give.
+fn note_by_uses<'a>(
+    doc: &'a [u8],
+    at: usize,
+    found: Found,
+    uses: &'a [usize],
+    hints: &'a [u8; 256],
+    u: Uses,
+    g: u32,
+    out: &mut [u32],
+    skip: usize,
+    n: usize,
+    owner: u32,
+) -> usize
+    requires { ⌜ length (now uses) ≡ 510 ⌝ }
+    requires { ⌜ n + 255 ≤ 2 ^ 40 ⌝ }
+    ensures { λ r. ⌜ NotesVariants (now (doc .entry)) owner (now (out .entry)) skip n r (now (out .exit)) found (take (2 * u .named) (now (uses .entry))) (u .bare) g at ⌝ }
+    ensures { λ r. ⌜ r ≤ n + 255 ⌝ }
+{
+    let words = 2 * (u.named as usize);
+    note_variants(
+        doc,
+        at,
+        found,
+        &uses[0..words],
+        hints,
+        u.bare,
+        g,
+        out,
+        skip,
+        n,
+        owner,
+    )
+}
+
+// Those of group g, by a table of the groups and the prints of the patterns' groups; uses and hints are room for the names that these give.
 pub(crate) fn note_group<'a>(
     doc: &'a [u8],
     groups: &'a [usize],
@@ -83,6 +133,7 @@ pub(crate) fn note_group<'a>(
     count: u8,
     g: u8,
     uses: &mut [usize],
+    hints: &mut [u8; 256],
     out: &mut [u32],
     skip: usize,
     n: usize,
@@ -90,7 +141,7 @@ pub(crate) fn note_group<'a>(
 ) -> usize
     requires { ⌜ 2 * g + 1 < length (now groups) ⌝ }
     requires { ⌜ Tabled (GroupPrint (now doc) (now rows)) count (now marks) ⌝ }
-    requires { ⌜ length (now uses) ≡ 256 ⌝ }
+    requires { ⌜ length (now uses) ≡ 510 ⌝ }
     requires { ⌜ n + 255 ≤ 2 ^ 40 ⌝ }
     ensures { λ r. ⌜ NotesGroup (now (doc .entry)) owner (now (out .entry)) skip n r (now (out .exit)) (now (rows .entry)) count (now (groups .entry)) g ⌝ }
     ensures { λ r. ⌜ r ≤ n + 255 ⌝ }
@@ -98,9 +149,21 @@ pub(crate) fn note_group<'a>(
     let j = 2 * (g as usize);
     let key = groups[j];
     let variants = groups[j + 1];
-    let u = fill_uses(doc, rows, marks, count, text_at(doc, key), uses);
+    let u = fill_uses(doc, rows, marks, count, text_at(doc, key), uses, hints);
     let found = first_variants(doc, groups, text_at(doc, key));
-    note_variants(doc, variants, found, uses, u, g as u32, out, skip, n, owner)
+    note_by_uses(
+        doc,
+        variants,
+        found,
+        uses,
+        hints,
+        u,
+        g as u32,
+        out,
+        skip,
+        n,
+        owner,
+    )
 }
 
 // Those of so many groups.
@@ -112,6 +175,7 @@ pub(crate) fn note_groups<'a>(
     count: u8,
     many: u8,
     uses: &mut [usize],
+    hints: &mut [u8; 256],
     out: &mut [u32],
     skip: usize,
     n: usize,
@@ -119,7 +183,7 @@ pub(crate) fn note_groups<'a>(
 ) -> usize
     requires { ⌜ 2 * many ≤ length (now groups) ⌝ }
     requires { ⌜ Tabled (GroupPrint (now doc) (now rows)) count (now marks) ⌝ }
-    requires { ⌜ length (now uses) ≡ 256 ⌝ }
+    requires { ⌜ length (now uses) ≡ 510 ⌝ }
     requires { ⌜ n + 65025 ≤ 2 ^ 40 ⌝ }
     ensures { λ r. ⌜ NotesGroups (now (doc .entry)) owner (now (out .entry)) skip n r (now (out .exit)) (now (rows .entry)) count (now (groups .entry)) many ⌝ }
     ensures { λ r. ⌜ r ≤ n + 65025 ⌝ }
@@ -135,6 +199,7 @@ pub(crate) fn note_groups<'a>(
             count,
             g,
             uses,
+            hints,
             out,
             skip,
             m,
@@ -161,7 +226,8 @@ pub(crate) fn note_dead<'a>(
     ensures { λ r. ⌜ NotesDead (now (doc .entry)) owner (now (out .entry)) skip n r (now (out .exit)) (now (rows .entry)) count (now (events .entry)) ⌝ }
     ensures { λ r. ⌜ r ≤ n + 65025 ⌝ }
 {
-    let mut uses = [0usize; 256];
+    let mut uses = [0usize; 510];
+    let mut hints = [0u8; 256];
     let half = events.len() / 2;
     let many = half as u8;
     let marks = print_groups(doc, rows, count);
@@ -173,6 +239,7 @@ pub(crate) fn note_dead<'a>(
         count,
         many,
         &mut uses,
+        &mut hints,
         out,
         skip,
         n,

@@ -1,6 +1,7 @@
 // Variants of a group of events that patterns use.
 use crate::rows::field;
-use crate::rows::word;
+use crate::variants::fill_variant;
+use crate::variants::is_variant;
 use reading::text_at;
 use typing::Found;
 use typing::after;
@@ -10,12 +11,11 @@ use typing::first_variant;
 use typing::null_at;
 use typing::print_bytes;
 use typing::same;
-use typing::store;
 ghost use mathlib.Core.Path.{_≡_};
 ghost use Prim.Native.Nat.{_<_, _≤_};
 ghost use lib.ListN.{length};
 ghost use Rattle.findings.specs.Classes.{Tabled};
-ghost use Rattle.findings.specs.Uses.{AddsVariant, AddsUse, GroupPrint, NextMarked, UsesOf, IsNamed, HasVariant, IsUsed};
+ghost use Rattle.findings.specs.Uses.{AddsVariant, AddsUse, GroupPrint, NextMarked, UsesOf, HasVariant, IsUsed};
 
 // How many variants the patterns of a group name, and whether one of them names none.
 pub struct Uses {
@@ -23,10 +23,16 @@ pub struct Uses {
     pub bare: bool,
 }
 
-// The pattern's variant at a place is added: the place of its name goes into the table.
-pub(crate) fn add_variant(doc: &[u8], at: usize, table: &mut [usize], u: Uses) -> Uses
+// The pattern's variant at a place is added: its name goes into the table.
+pub(crate) fn add_variant(
+    doc: &[u8],
+    at: usize,
+    table: &mut [usize],
+    hints: &mut [u8; 256],
+    u: Uses,
+) -> Uses
     requires { ⌜ u .named < 255 ⌝ }
-    requires { ⌜ length (now table) ≡ 256 ⌝ }
+    requires { ⌜ length (now table) ≡ 510 ⌝ }
     ensures { λ r. ⌜ AddsVariant (now (doc .entry)) at (now (table .entry)) u (now (table .exit)) r ⌝ }
 {
     let named = u.named;
@@ -34,7 +40,7 @@ pub(crate) fn add_variant(doc: &[u8], at: usize, table: &mut [usize], u: Uses) -
         return Uses { named, bare: true };
     }
     let key = after_tag(doc, at);
-    store(table, named as usize, key);
+    fill_variant(doc, key, named as u64, table, hints);
     Uses {
         named: named + 1,
         bare: u.bare,
@@ -47,16 +53,17 @@ pub(crate) fn add_use<'a>(
     at: usize,
     group: &'a [u8],
     table: &mut [usize],
+    hints: &mut [u8; 256],
     u: Uses,
 ) -> Uses
     requires { ⌜ u .named < 255 ⌝ }
-    requires { ⌜ length (now table) ≡ 256 ⌝ }
+    requires { ⌜ length (now table) ≡ 510 ⌝ }
     ensures { λ r. ⌜ AddsUse (now (doc .entry)) at (now (group .entry)) (now (table .entry)) u (now (table .exit)) r ⌝ }
 {
     let name = after_head(doc, at);
     if same(text_at(doc, name), group) {
         let variant = after(doc, name);
-        return add_variant(doc, variant, table, u);
+        return add_variant(doc, variant, table, hints, u);
     }
     u
 }
@@ -106,9 +113,10 @@ pub(crate) fn fill_uses<'a>(
     count: u8,
     group: &'a [u8],
     table: &mut [usize],
+    hints: &mut [u8; 256],
 ) -> Uses
     requires { ⌜ Tabled (GroupPrint (now doc) (now rows)) count (now marks) ⌝ }
-    requires { ⌜ length (now table) ≡ 256 ⌝ }
+    requires { ⌜ length (now table) ≡ 510 ⌝ }
     ensures { λ r. ⌜ UsesOf (now (doc .entry)) (now (rows .entry)) count (now (group .entry)) (now (table .exit)) r ⌝ }
 {
     let mark = print_bytes(group, 0);
@@ -118,25 +126,10 @@ pub(crate) fn fill_uses<'a>(
     };
     let mut i = next_marked(marks, mark, 0, count);
     while i < count {
-        u = add_use(doc, field(rows, i, 2), group, table, u);
+        u = add_use(doc, field(rows, i, 2), group, table, hints, u);
         i = next_marked(marks, mark, i + 1, count);
     }
     u
-}
-
-// Whether a name is among those whose places stand in the table.
-pub(crate) fn is_named<'a>(doc: &'a [u8], table: &'a [usize], count: u8, name: &'a [u8]) -> bool
-    ensures { λ r. ⌜ IsNamed (now (doc .entry)) (now (table .entry)) count (now (name .entry)) r ⌝ }
-{
-    let mut k: u8 = 0;
-    while k < count {
-        let key = word(table, k as usize);
-        if same(text_at(doc, key), name) {
-            return true;
-        }
-        k += 1;
-    }
-    false
 }
 
 // Whether the list of variants that was found has one of the name.
@@ -153,20 +146,22 @@ pub(crate) fn has_variant<'a>(doc: &'a [u8], found: Found, name: &'a [u8]) -> bo
     }
 }
 
-// Whether patterns use the variant of a name: one without variant uses those of the first group, which were found.
+// Whether patterns use the variant whose name stands at a place: one without variant uses those of the first group, which were found.
 pub(crate) fn is_used<'a>(
     doc: &'a [u8],
     found: Found,
-    table: &'a [usize],
-    u: Uses,
-    name: &'a [u8],
+    names: &'a [usize],
+    hints: &'a [u8; 256],
+    bare: bool,
+    at: usize,
 ) -> bool
-    ensures { λ r. ⌜ IsUsed (now (doc .entry)) found (now (table .entry)) u (now (name .entry)) r ⌝ }
+    ensures { λ r. ⌜ IsUsed (now (doc .entry)) found (now (names .entry)) bare at r ⌝ }
 {
-    if is_named(doc, table, u.named, name) {
+    let name = text_at(doc, at);
+    if is_variant(doc, names, hints, at, print_bytes(name, 0)) {
         return true;
     }
-    if u.bare {
+    if bare {
         return has_variant(doc, found, name);
     }
     false

@@ -1,5 +1,5 @@
-// The table of the State variants, two words each: the print of a name and its place. A name is looked up by its print, and by its bytes
-// only where the prints are equal; first where a hint says, which is the number of a name whose print has the same remainder.
+// A table of names, two words each: the print of a name and its place. A name is looked up by its print, and by its bytes only where
+// the prints are equal; first where a hint says, which is the number of a name whose print has the same remainder.
 use crate::sheet::emit_if;
 use reading::Answer;
 use reading::Cursor;
@@ -9,21 +9,22 @@ use typing::after;
 use typing::print_bytes;
 use typing::same_name;
 ghost use mathlib.Core.Path.{_≡_};
-ghost use mathlib.Core.List.{[], _∷_};
 ghost use Prim.Native.Nat.{_+_, _*_, _<_, _≤_, _^_};
 ghost use lib.ListN.{length};
-ghost use lib.Seq.{sets};
-ghost use Rattle.reading.specs.Skip.{textAt};
-ghost use Rattle.typing.specs.Lanes.{print};
-ghost use Rattle.findings.specs.Variants.{StandsAt, Hinted, IsVariant, NamesFilled, StatesFilled};
+ghost use Rattle.findings.specs.Variants.{putVariant, StandsAt, Hinted, IsVariant, NamesFilled, StatesFilled};
 ghost use Rattle.findings.specs.Promises.{NotesVariant};
 
-// Puts the two words of the name at a place, number j of its list, and the hint to it.
-fn fill_variant(doc: &[u8], at: usize, j: u64, variants: &mut [usize], hints: &mut [u8])
+// Puts the two words of the name at a place, number j of the table, and the hint to it.
+pub(crate) fn fill_variant(
+    doc: &[u8],
+    at: usize,
+    j: u64,
+    variants: &mut [usize],
+    hints: &mut [u8; 256],
+)
     requires { ⌜ j ≤ 254 ⌝ }
     requires { ⌜ 510 ≤ length (now variants) ⌝ }
-    requires { ⌜ 256 ≤ length (now hints) ⌝ }
-    ensures { λ _. ⌜ now (variants .exit) ≡ sets (now (variants .entry)) (2 * j) (print 0 (textAt (now (doc .entry)) at) ∷ at ∷ []) ⌝ }
+    ensures { λ _. ⌜ now (variants .exit) ≡ putVariant (now (doc .entry)) at j (now (variants .entry)) ⌝ }
 {
     let p = print_bytes(text_at(doc, at), 0);
     let w = 2 * (j as usize);
@@ -34,9 +35,8 @@ fn fill_variant(doc: &[u8], at: usize, j: u64, variants: &mut [usize], hints: &m
 }
 
 // Fills the table of the names of the list at a place; how many words it takes.
-fn fill_variants(doc: &[u8], at: usize, variants: &mut [usize], hints: &mut [u8]) -> usize
+fn fill_variants(doc: &[u8], at: usize, variants: &mut [usize], hints: &mut [u8; 256]) -> usize
     requires { ⌜ 510 ≤ length (now variants) ⌝ }
-    requires { ⌜ 256 ≤ length (now hints) ⌝ }
     ensures { λ r. ⌜ NamesFilled (now (doc .entry)) at r (now (variants .exit)) ⌝ }
     ensures { λ r. ⌜ r ≤ 510 ⌝ }
 {
@@ -60,10 +60,9 @@ pub(crate) fn fill_states(
     doc: &[u8],
     found: Found,
     variants: &mut [usize],
-    hints: &mut [u8],
+    hints: &mut [u8; 256],
 ) -> usize
     requires { ⌜ 510 ≤ length (now variants) ⌝ }
-    requires { ⌜ 256 ≤ length (now hints) ⌝ }
     ensures { λ r. ⌜ StatesFilled (now (doc .entry)) found r (now (variants .exit)) ⌝ }
     ensures { λ r. ⌜ r ≤ 510 ⌝ }
 {
@@ -111,7 +110,13 @@ fn is_hinted(doc: &[u8], variants: &[usize], at: usize, print: u32, hint: u8) ->
 }
 
 // Whether it is one of them, the one that is hinted at first.
-fn is_variant(doc: &[u8], variants: &[usize], hints: &[u8; 256], at: usize, print: u32) -> bool
+pub(crate) fn is_variant(
+    doc: &[u8],
+    variants: &[usize],
+    hints: &[u8; 256],
+    at: usize,
+    print: u32,
+) -> bool
     ensures { λ r. ⌜ IsVariant (now (doc .entry)) (now (variants .entry)) at print r ⌝ }
 {
     let hint = hints[(print % 256) as usize];

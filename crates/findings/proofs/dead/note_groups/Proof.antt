@@ -9,11 +9,11 @@ use Rattle.findings.proofs.dead.note_groups.Statement.{statement}
 use Rattle.findings.proofs.dead.note_groups.Tie as tie
 
 abbrev Inv-loop : tie.InvT-loop
-Inv-loop doc groups rows marks count many uses₀ out₀ skip n owner m₀ g₀ uses out m g =
-    (g ≤ many) × (m ≤ n + 255 * g) × (length uses ≡ 256) × (length out ≡ length out₀) × GroupsLeft doc owner out₀ skip n rows count groups many g m out
+Inv-loop doc groups rows marks count many uses₀ hints₀ out₀ skip n owner m₀ g₀ uses hints out m g =
+    (g ≤ many) × (m ≤ n + 255 * g) × (length uses ≡ 510) × (length out ≡ length out₀) × GroupsLeft doc owner out₀ skip n rows count groups many g m out
 
 abbrev μ-loop : tie.MeasureT-loop
-μ-loop doc groups rows marks count many uses₀ out₀ skip n owner m₀ g₀ uses out m g = many - g
+μ-loop doc groups rows marks count many uses₀ hints₀ out₀ skip n owner m₀ g₀ uses hints out m g = many - g
 
 pub note-groups-spec : {M : Type 1} → statement M
 note-groups-spec =

@@ -12,6 +12,5 @@ note-variant-spec =
     (λ c κs. search needs)
     (λ c κs. search needs)
     (λ c κs. search needs)
-    (λ c κs. search needs)
     (λ c. search needs)
     (λ c. (search variant-noted, omega arith)))

@@ -10,11 +10,11 @@ use Rattle.findings.proofs.dead.note_variants.Statement.{statement}
 use Rattle.findings.proofs.dead.note_variants.Tie as tie
 
 abbrev Inv-loop : tie.InvT-loop
-Inv-loop doc at found table u g out₀ skip n owner count k₀ m₀ j₀ out k m j =
-    (j ≤ count) × (count ≤ 255) × (m ≤ n + j) × (length out ≡ length out₀) × VariantsLeft doc owner out₀ skip n found table u g at count k j m out
+Inv-loop doc at found names hints bare g out₀ skip n owner count k₀ m₀ j₀ out k m j =
+    (j ≤ count) × (count ≤ 255) × (m ≤ n + j) × (length out ≡ length out₀) × VariantsLeft doc owner out₀ skip n found names bare g at count k j m out
 
 abbrev μ-loop : tie.MeasureT-loop
-μ-loop doc at found table u g out₀ skip n owner count k₀ m₀ j₀ out k m j = count - j
+μ-loop doc at found names hints bare g out₀ skip n owner count k₀ m₀ j₀ out k m j = count - j
 
 pub note-variants-spec : {M : Type 1} → statement M
 note-variants-spec =

@@ -9,10 +9,10 @@ use Rattle.findings.proofs.uses.fill_uses.Statement.{statement}
 use Rattle.findings.proofs.uses.fill_uses.Tie as tie
 
 abbrev Inv-loop : tie.InvT-loop
-Inv-loop doc rows marks count group table₀ mark u₀ i₀ table u i = (i ≤ count) × (length table ≡ 256) × UsesLeft doc rows count group table i u
+Inv-loop doc rows marks count group table₀ hints₀ mark u₀ i₀ table hints u i = (i ≤ count) × (length table ≡ 510) × UsesLeft doc rows count group table i u
 
 abbrev μ-loop : tie.MeasureT-loop
-μ-loop doc rows marks count group table₀ mark u₀ i₀ table u i = count - i
+μ-loop doc rows marks count group table₀ hints₀ mark u₀ i₀ table hints u i = count - i
 
 pub fill-uses-spec : {M : Type 1} → statement M
 fill-uses-spec =

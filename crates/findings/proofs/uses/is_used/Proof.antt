@@ -9,6 +9,8 @@ is-used-spec =
     tie.close
     (tie.spec
     (λ c κs. search needs)
+    (λ c κs. search needs)
+    (λ c κs. search needs)
     (λ c. search used-named)
     (λ c κs. search needs)
     (λ c. search used-bare)

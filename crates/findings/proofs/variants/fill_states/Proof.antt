@@ -14,5 +14,4 @@ fill-states-spec =
     (λ c. (search states-unfilled, omega arith))
     (λ c κs. search needs)
     (λ c. search needs)
-    (λ c. search needs)
     (λ c. (search states-filled, omega arith)))

@@ -23,5 +23,4 @@ fill-variant-spec =
     (λ c. omega arith)
     (λ c. omega arith)
     (λ c. search needs)
-    (λ c. search needs)
     (λ c. search put-variant))
