@@ -27,7 +27,7 @@ use Rattle.typing.specs.Means.{causeOf, unfitOf, withinOf, blameOf}
 use Rattle.typing.specs.Table.{afterItem, afterHead, exprTypeAt}
 use Rattle.typing.specs.Accepts.{Accepts}
 use Rattle.typing.specs.Blames.{none-bound, more-bound, Binds}
-use Rattle.typing.specs.Fields.{fieldNamed, namedFrom, Passed, unnamed, again, fresh, nameIn, namedOf, NamesField, FitsField, noMore, JudgesField}
+use Rattle.typing.specs.Fields.{fieldNamed, namedFrom, Known, unnamed, again, fresh, nameIn, namedOf, NamesField, FitsField, noMore, JudgesField}
 use Rattle.typing.specs.declared.cause.Cause.{Cause}
 use Rattle.typing.specs.declared.cause.Cause.the-variants.{DuplicateBinding}
 use Rattle.typing.specs.declared.cause.Within.the-variants.{Alone, Field}
@@ -91,12 +91,12 @@ module _ (s : List ℕ) (k first i : ℕ) {b : Bool} (e : b ≡ eqb (getD s k 0)
   name-absent q = record { of = λ o n seen g p. rw (option-null e q g) }
 
   module _ (q : b ≡ false) {t : Name} {r : Bool} (f : t ≡ textAt s k) (j : r ≡ namedFrom i s first t) where
-    name-there : (seen : List Name) → Passed s first i seen → {o : Option Name} {m : ℕ} → OptionAt readName s k o m → pick r (again (textAt s k)) (fresh (textAt s k)) ≡ nameIn seen o
+    name-there : (seen : List Name) {o : Option Name} {m : ℕ} → Known s first i o seen → OptionAt readName s k o m → pick r (again (textAt s k)) (fresh (textAt s k)) ≡ nameIn seen o
     unfolding nameIn
-    name-there seen p {m = m} o =
-        let y = option-there e q o in
+    name-there seen {m = m} p g =
+        let y = option-there e q g in
         let z = name-text s k (y .0) m (y .2) in
-        rw (y .1, z, j, f ∙ z, p .are (y .0))
+        rw (y .1, z, j, f ∙ z, p .is (y .0) (y .1))
 
     pub name-again : r ≡ true → NamesField s k first i (Again k)
     unfolding namedOf

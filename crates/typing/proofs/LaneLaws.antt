@@ -4,6 +4,7 @@ use mathlib.Core.Path.{_≡_, refl, sym, ap, _∙_}
 use mathlib.Core.Logic.{_≢_}
 use mathlib.Core.Bool.{Bool, false}
 use mathlib.Core.List.{List}
+use mathlib.Core.Option.{some}
 use native.Mathlib.Omega.{arith}
 use native.Mathlib.Numerals.{add-one}
 use native.Mathlib.Decide.{ℕ-discrete}
@@ -17,9 +18,9 @@ use Rattle.reading.specs.Skip.{textAt}
 use Rattle.reading.proofs.Rules.{by}
 use Rattle.typing.specs.Names.{eqName}
 use Rattle.typing.specs.Table.{findFirst}
-use Rattle.typing.specs.Lanes.{print, laneOf, Lanes}
+use Rattle.typing.specs.Lanes.{print, laneOf, Lanes, Laned}
 use Rattle.typing.proofs.NameLaws.{eqName-eq}
-use Rattle.typing.proofs.TableLaws.{find-miss}
+use Rattle.typing.proofs.TableLaws.{find-miss, find-kept}
 
 -- one byte more
 module _ (a : List ℕ) (h i p : ℕ) (e : print p (drop i a) ≡ print h a) where
@@ -138,6 +139,44 @@ module _ (s table : List ℕ) {k : ℕ} {heads links : List ℕ} (w : Lanes s ta
 
     pub lanes-more : {key : Name} {h : ℕ} → key ≡ textAt s (getD table (2 * k) 0) → h ≡ print 0 key % 1024 → Lanes s table (k + 1) (set heads h (k + 1)) (set links k (getD heads h 0))
     lanes-more t e = rw (e, t) lanes-with
+
+-- a table before its first pair
+pub laned-start : (n : ℕ) (s : List ℕ) {table heads links : List ℕ} → table ≡ replicate (2 * n) 0 → heads ≡ replicate 1024 0 → links ≡ replicate n 0 → Laned n s table 0 heads links
+laned-start n s {table} {heads} {links} a b c = record {
+  size = ap length a ∙ length-replicate {A = ℕ} (2 * n) 0;
+  links-size = ap length c ∙ length-replicate {A = ℕ} n 0;
+  lanes = rw b (no-lanes s table links);
+}
+
+-- pair k, put after the others
+abbrev pub put : List ℕ → ℕ → ℕ → ℕ → List ℕ
+put table k a v = set (set table (2 * k) a) (2 * k + 1) v
+
+pub words-kept : (table : List ℕ) (k a v j : ℕ) → j < 2 * k → getD (put table k a v) j 0 ≡ getD table j 0
+words-kept table k a v j h =
+    getD-set-other (set table (2 * k) a) (2 * k + 1) j v 0 (λ (e : j ≡ 2 * k + 1). omega arith) ∙ getD-set-other table (2 * k) j a 0 (λ (e : j ≡ 2 * k). omega arith)
+
+module _ {n : ℕ} {s table : List ℕ} {k : ℕ} {heads links : List ℕ} (r : Laned n s table k heads links) (low : k < n) (a v : ℕ) where
+  pair-size : length (put table k a v) ≡ 2 * n
+  pair-size = length-set (set table (2 * k) a) (2 * k + 1) v ∙ length-set table (2 * k) a ∙ r .size
+
+  pub pair-lanes : Lanes s (put table k a v) k heads links
+  pair-lanes = lanes-kept (r .lanes) (r .size ∙ sym pair-size) (λ j h. words-kept table k a v (2 * j) (omega arith))
+
+  pub pair-laned : {heads′ links′ : List ℕ} → Lanes s (put table k a v) (k + 1) heads′ links′ → length links′ ≡ length links → Laned n s (put table k a v) (k + 1) heads′ links′
+  pair-laned l z = record { size = pair-size; links-size = z ∙ r .links-size; lanes = l }
+
+  pub pair-name : getD (put table k a v) (2 * k) 0 ≡ a
+  pair-name =
+      let z = r .size in
+      getD-set-other (set table (2 * k) a) (2 * k + 1) (2 * k) v 0 (λ (e : 2 * k ≡ 2 * k + 1). omega arith) ∙ getD-set-same table (2 * k) a 0 (omega arith)
+
+  pub pair-value : getD (put table k a v) (2 * k + 1) 0 ≡ v
+  pair-value = let z = length-set table (2 * k) a ∙ r .size in getD-set-same (set table (2 * k) a) (2 * k + 1) v 0 (omega arith)
+
+  pub pair-found : (w : Name) → findFirst s w (put table k a v) (k + 1) ≡ pick (eqName (textAt s a) w) (some v) (findFirst s w table k)
+  unfolding findFirst
+  pair-found w = rw (add-one k, pair-name, pair-value, find-kept s w table (put table k a v) k (words-kept table k a v))
 
 -- names of other lanes differ
 lane-apart : (x n : Name) → (print 0 x % 1024 ≡ print 0 n % 1024 → ⊥) → eqName x n ≡ false

@@ -22,6 +22,7 @@ pub mod AcceptLaws
 pub mod FirstLaws
 pub mod GroupLaws
 pub mod FieldLaws
+pub mod ApartLaws
 pub mod WalkLaws
 pub mod EventLaws
 pub mod ArgLaws

@@ -6,8 +6,7 @@ use mathlib.Core.List.{List, [], _∷_, _++_, append-assoc, append-nil}
 use mathlib.Core.Option.{Option, none, some}
 use native.Mathlib.Omega.{arith}
 use native.Mathlib.Numerals.{add-one}
-use lib.ListN.{length, getD, set, replicate, length-set, length-replicate}
-use lib.Seq.{getD-set-same, getD-set-other}
+use lib.ListN.{length, getD}
 use borrow.Author.Tests.{eq-eqb, ne-eqb}
 use Rattle.reading.specs.Read.{ok, pick}
 use Rattle.reading.specs.Text.{Name}
@@ -32,7 +31,7 @@ use Rattle.typing.specs.declared.equality.Conjunct.the-variants.{And, On
 use Rattle.typing.specs.declared.seen.Seen.{Seen}
 use Rattle.typing.specs.declared.seen.Seen.the-variants.{Many, Clash, Full}
 use Rattle.typing.proofs.EqualityLaws.{deep-enough, was-and, was-one}
-use Rattle.typing.proofs.LaneLaws.{no-lanes, lanes-kept}
+use Rattle.typing.proofs.LaneLaws.{put, words-kept, pair-laned, pair-name, pair-value}
 
 -- a guard's clash depends on its equalities only
 clashes-clashing : (seen : List guards.Equality) (es : List Expr) → clashes seen es ≡ clashing seen (equalities es)
@@ -83,40 +82,18 @@ module _ (s : List ℕ) (w : Name) (table : List ℕ) (k : ℕ) {f : Found} (e :
       go (some x) i u = (x, i, let y : lookup.At (x .value) ≡ lookup.At v = cc in cc)
 
 -- pair k, put after the others
-abbrev put : List ℕ → ℕ → ℕ → ℕ → List ℕ
-put table k n v = set (set table (2 * k) n) (2 * k + 1) v
-
-words-kept : (table : List ℕ) (k n v j : ℕ) → j < 2 * k → getD (put table k n v) j 0 ≡ getD table j 0
-words-kept table k n v j h =
-    getD-set-other (set table (2 * k) n) (2 * k + 1) j v 0 (λ (e : j ≡ 2 * k + 1). omega arith) ∙ getD-set-other table (2 * k) j n 0 (λ (e : j ≡ 2 * k). omega arith)
-
 seen-kept : (s table table′ : List ℕ) (k : ℕ) → ((j : ℕ) → j < 2 * k → getD table′ j 0 ≡ getD table j 0) → seenIn s table′ k ≡ seenIn s table k
 unfolding seenIn
 seen-kept s table table′ zero h = refl
 seen-kept s table table′ (suc k) h =
     rw (h (2 * k) (omega arith), h (2 * k + 1) (omega arith), seen-kept s table table′ k (λ j i. h j (omega arith)))
 
-module _ {s table : List ℕ} {k : ℕ} {heads links : List ℕ} (r : Room s table k heads links) (low : k < 4096) (n v : ℕ) where
-  pair-size : length (put table k n v) ≡ 8192
-  pair-size = length-set (set table (2 * k) n) (2 * k + 1) v ∙ length-set table (2 * k) n ∙ r .size
-
-  pub pair-lanes : Lanes s (put table k n v) k heads links
-  pair-lanes = lanes-kept (r .lanes) (r .size ∙ sym pair-size) (λ j h. words-kept table k n v (2 * j) (omega arith))
-
-  pair-name : getD (put table k n v) (2 * k) 0 ≡ n
-  pair-name =
-      let z = r .size in
-      getD-set-other (set table (2 * k) n) (2 * k + 1) (2 * k) v 0 (λ (e : 2 * k ≡ 2 * k + 1). omega arith) ∙ getD-set-same table (2 * k) n 0 (omega arith)
-
-  pair-value : getD (put table k n v) (2 * k + 1) 0 ≡ v
-  pair-value = let z = length-set table (2 * k) n ∙ r .size in getD-set-same (set table (2 * k) n) (2 * k + 1) v 0 (omega arith)
-
-  pub pair-added : {heads′ links′ : List ℕ} → Lanes s (put table k n v) (k + 1) heads′ links′ → length links′ ≡ length links → Adds s n v table k (put table k n v) heads′ links′
-  unfolding seenIn
-  pair-added l z = record {
-    room = record { size = pair-size; links-size = z ∙ r .links-size; lanes = l };
-    seen = rw (add-one k, pair-name, pair-value, seen-kept s table (put table k n v) k (words-kept table k n v));
-  }
+pub pair-added : {s table : List ℕ} {k : ℕ} {heads links : List ℕ} → Room s table k heads links → k < 4096 → (n v : ℕ) {heads′ links′ : List ℕ} → Lanes s (put table k n v) (k + 1) heads′ links′ → length links′ ≡ length links → Adds s n v table k (put table k n v) heads′ links′
+unfolding seenIn
+pair-added {s} {table} {k} r low n v l z = record {
+  room = pair-laned r low n v l z;
+  seen = rw (add-one k, pair-name r low n v, pair-value r low n v, seen-kept s table (put table k n v) k (words-kept table k n v));
+}
 
 -- an equality against those in the table
 module _ (s : List ℕ) {q : Equality} (table : List ℕ) (k : ℕ) where
@@ -210,13 +187,6 @@ module _ (d : ℕ) (s : List ℕ) (at : ℕ) (table : List ℕ) (k : ℕ) {right
   notes-full q = record { kept = f .kept; of = λ a j b n u v. rw q tt }
 
 -- the whole guard, from a table of no pairs
-pub room-start : (s : List ℕ) {table heads links : List ℕ} → table ≡ replicate 8192 0 → heads ≡ replicate 1024 0 → links ≡ replicate 4096 0 → Room s table 0 heads links
-room-start s {table} {heads} {links} a b c = record {
-  size = ap length a ∙ length-replicate {A = ℕ} 8192 0;
-  links-size = ap length c ∙ length-replicate {A = ℕ} 4096 0;
-  lanes = rw b (no-lanes s table links);
-}
-
 pub pass-done : (d : ℕ) (s : List ℕ) (at : ℕ) (r : Seen) {table table′ heads links : List ℕ} → NotesConjuncts d s at table 0 r table′ heads links → OnePass d s at r
 unfolding Leaves Answers seenIn clashing
 pass-done d s at r {table} {table′} f = record { of = λ e n g. go e r (f .of e n g) }

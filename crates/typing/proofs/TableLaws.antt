@@ -3,7 +3,7 @@ use Prim.Native.Nat.{ℕ, zero, suc, _+_, _-_, _*_, _/_, _<_, _≤_}
 use mathlib.Core.Path.{_≡_, refl, sym, ap, _∙_}
 use mathlib.Core.Bool.{Bool, true, false}
 use mathlib.Core.List.{List}
-use mathlib.Core.Option.{Option, some}
+use mathlib.Core.Option.{Option, none, some}
 use native.Mathlib.Omega.{arith}
 use native.Mathlib.Numerals.{add-one}
 use lib.ListN.{length, getD, set, length-set}
@@ -29,6 +29,7 @@ use Rattle.reading.proofs.Answers.{num, out}
 use Rattle.reading.proofs.ItemLaws.{number-kind}
 use Rattle.typing.specs.Names.{eqName}
 use Rattle.typing.specs.Means.{tyOf}
+use Rattle.typing.specs.Env.{given}
 use Rattle.typing.specs.Table.{placeAfter, afterItem, afterHead, pairsFrom, pairsOf, pairsAt, Filled, Ended, Differs, findFirst, findIn, found, widthType, caseType, exprTypeAt, memberFrom, memberOf, memberAt}
 use Rattle.typing.specs.Entries.{opened}
 use Rattle.typing.specs.declared.entries.Entries.{Entries}
@@ -92,6 +93,29 @@ module _ (s : List ℕ) (n : Name) (table : List ℕ) (i : ℕ) {o : Option ℕ}
     pub find-miss : b ≡ false → findFirst s n table (i - 1) ≡ o
     unfolding pick
     find-miss q = rw (last-pair, q)
+
+-- the names and what stands under them decide
+pub find-kept : (s : List ℕ) (n : Name) (table table′ : List ℕ) (k : ℕ) → ((j : ℕ) → j < 2 * k → getD table′ j 0 ≡ getD table j 0) → findFirst s n table′ k ≡ findFirst s n table k
+unfolding findFirst
+find-kept s n table table′ zero h = refl
+find-kept s n table table′ (suc k) h =
+    rw (h (2 * k) (omega arith), h (2 * k + 1) (omega arith), find-kept s n table table′ k (λ j i. h j (omega arith)))
+
+-- whether something stands under a name
+pub given-at : {f : Found} {k : ℕ} (o : Option ℕ) → f ≡ found o → f ≡ At k → true ≡ given o
+unfolding given found
+given-at none e q = no (cc)
+given-at (some x) e q = refl
+
+pub given-not : {f : Found} (o : Option ℕ) → f ≡ found o → f ≡ Nothing → false ≡ given o
+unfolding given found
+given-not none e q = refl
+given-not (some x) e q = no (cc)
+
+pub given-pick : (b : Bool) (k : ℕ) (o : Option ℕ) → given (pick b (some k) o) ≡ pick b true (given o)
+unfolding given pick
+given-pick true k o = refl
+given-pick false k o = refl
 
 pub find-all : (s : List ℕ) (n : Name) (table : List ℕ) → findFirst s n table (length table / 2) ≡ findIn s n table
 unfolding findIn

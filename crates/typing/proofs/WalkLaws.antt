@@ -1,20 +1,21 @@
 -- A walk over a pattern's fields and the declared ones: what is left of both, judged by the names passed, and put after what is bound
 -- already, makes the whole.
-use Prim.Native.Nat.{ℕ, zero, suc, _+_, _-_, _*_, _<_, _≤_}
+use Prim.Native.Nat.{ℕ, suc, _+_, _-_, _*_, _<_, _≤_}
 use mathlib.Core.Path.{_≡_, refl, sym, ap, subst, _∙_}
 use mathlib.Core.Bool.{Bool, true, false}
 use mathlib.Core.List.{List, [], _∷_, _++_, append-assoc, append-nil}
 use mathlib.Core.Option.{Option, none, some}
 use native.Mathlib.Omega.{arith}
-use native.Mathlib.Numerals.{add-one}
 use native.Mathlib.Nat.{add-zero}
 use lib.ListN.{length, set, take, length-append}
 use lib.Seq.{sets, take-take}
+use lib.Dec.{ltb}
+use borrow.Author.Tests.{ltb-true}
 use Rattle.reading.specs.Read.{ok, pick}
 use Rattle.reading.specs.Text.{Name}
 use Rattle.reading.specs.Decl.{FieldDecl, readFieldDecl}
 use Rattle.reading.specs.Pattern.{PatternField, readPatternField}
-use Rattle.reading.proofs.Rules.{no}
+use Rattle.reading.proofs.Rules.{no, by}
 use Rattle.reading.proofs.PatternLaws.{pattern-field-laws}
 use Rattle.typing.specs.Causes as causes
 use Rattle.typing.specs.Causes.{field, blame}
@@ -22,10 +23,10 @@ use Rattle.typing.specs.Names.{member}
 use Rattle.typing.specs.Env.{Binding}
 use Rattle.typing.specs.Patterns.{patternExprCompatible, Judged, judged, bound, orElse, judgeField, judgeFields}
 use Rattle.typing.specs.Means.{blameOf}
-use Rattle.typing.specs.Table.{afterItem, Past}
+use Rattle.typing.specs.Table.{Past}
 use Rattle.typing.specs.Blames.{Bound, none-bound, more-bound, Binds, Spares}
 use Rattle.typing.specs.Entries.{Entered}
-use Rattle.typing.specs.Fields.{PartsAt, fieldNamed, namedFrom, Passed, noMore, JudgesField, JudgesFields}
+use Rattle.typing.specs.Fields.{PartsAt, fieldNamed, namedFrom, stepped, Apart, Known, noMore, JudgesField, JudgesFields}
 use Rattle.typing.specs.declared.cause.Cause.{Cause}
 use Rattle.typing.specs.declared.cause.Within.{Within}
 use Rattle.typing.specs.declared.cause.Blame.{Blame}
@@ -35,31 +36,13 @@ use Rattle.typing.specs.declared.field.Parts.{Parts}
 use Rattle.typing.proofs.EnvLaws.{after-is}
 use Rattle.typing.proofs.EntryLaws.{Next, none-left, next, entered-at}
 use Rattle.typing.proofs.PartLaws.{field-text, field-type, field-ends, name-stands, pattern-stands, pattern-ends}
+use Rattle.typing.proofs.NameLaws.{eqName-refl}
 use Rattle.typing.proofs.FieldLaws.{nameIs, field-named-is}
+use Rattle.typing.proofs.ApartLaws.{named-more, stepped-more}
 
--- the place after so many items
-unfoldable pub stepped : List ℕ → ℕ → ℕ → ℕ
-stepped s at zero = at
-stepped s at (suc i) = afterItem s (stepped s at i)
-
-stepped-from : (s : List ℕ) (at i : ℕ) → stepped s (afterItem s at) i ≡ afterItem s (stepped s at i)
-unfolding stepped
-stepped-from s at zero = refl
-stepped-from s at (suc i) = ap (afterItem s) (stepped-from s at i)
-
-pick-swap : (a b c : Bool) → pick a true (pick b true c) ≡ pick b true (pick a true c)
-unfolding pick
-pick-swap true true c = refl
-pick-swap true false c = refl
-pick-swap false b c = refl
-
--- one field more is passed
-named-last : (s : List ℕ) (w : Name) (at i : ℕ) → namedFrom (suc i) s at w ≡ pick (fieldNamed s (stepped s at i) w) true (namedFrom i s at w)
-unfolding namedFrom stepped
-named-last s w at zero = refl
-named-last s w at (suc i) =
-    ap (pick (fieldNamed s at w) true) (named-last s w (afterItem s at) i)
-    ∙ rw (stepped-from s at i) (pick-swap (fieldNamed s at w) (fieldNamed s (afterItem s (stepped s at i)) w) (namedFrom i s (afterItem s at) w))
+-- the names of so many fields from a place on
+pub record Passed (s : List ℕ) (first i : ℕ) (seen : List Name) : Type 0 where
+  pub are : (w : Name) → namedFrom i s first w ≡ member w seen
 
 abbrev pub grown : List Name → Option Name → List Name
 grown seen none = seen
@@ -76,10 +59,18 @@ passed-none s first = record { are = λ w. refl }
 
 pub passed-more : (s : List ℕ) (first i p : ℕ) (seen : List Name) (x : PatternField) (n : ℕ) → p ≡ stepped s first i → readPatternField s p ≡ ok x n → Passed s first i seen → Passed s first (i + 1) (grown seen (x .name))
 passed-more s first i p seen x n h g q = record {
-  are = λ w.
-      ap (λ (z : ℕ). namedFrom z s first w) (add-one i)
-      ∙ named-last s w first i
-      ∙ rw (sym h, field-named-is s p w x n g, q .are w) (grown-has w seen (x .name));
+  are = λ w. named-more s w first i h ∙ rw (field-named-is s p w x n g, q .are w) (grown-has w seen (x .name));
+}
+
+-- the fields that are searched tell as much as all those passed
+pub passed-known : (s : List ℕ) (first i p : ℕ) (seen : List Name) (x : PatternField) (n : ℕ) {apart many : ℕ} → Apart s first apart → many ≡ pick (ltb i apart) 0 i → p ≡ stepped s first i → readPatternField s p ≡ ok x n → Passed s first i seen → Known s first many (x .name) seen
+unfolding namedFrom pick
+passed-known s first i p seen x n {apart} {many} a e h g q = record {
+  is = λ w o.
+      let named : fieldNamed s (stepped s first i) w ≡ true = rw (sym h) (field-named-is s p w x n g ∙ rw o (eqName-refl w)) in
+      by (ltb i apart)
+      (λ t. rw (e, t) (sym (a .are i w (ltb-true i apart t) named) ∙ q .are w))
+      (λ t. rw (e, t) (q .are w));
 }
 
 -- bindings after bindings
@@ -210,7 +201,7 @@ module _ (s : List ℕ) (at at′ count k : ℕ) (table : List ℕ) where
     pub done-spares : Spares table k (record { blame = Nothing; words = j }) now
     done-spares = record { few = omega (arith, g .few, g .upto, g .room); kept = g .kept }
 
-    module _ (h : i < count) {own decl : Parts} {r : Bindings} {now′ : List ℕ} (a : PartsAt s p own) (b : PartsAt s f decl) (o : JudgesField s own decl at i now (k + j) r now′) where
+    module _ (h : i < count) {apart many : ℕ} {own decl : Parts} {r : Bindings} {now′ : List ℕ} (v : Apart s at apart) (e : many ≡ pick (ltb i apart) 0 i) (a : PartsAt s p own) (b : PartsAt s f decl) (o : JudgesField s own decl at many now (k + j) r now′) where
       turn : {whole : Judged} (l : Left s at k table whole (count - i) i p f j now) → Turn s at k table whole (count - i) i p f j now r now′ l
       unfolding judgeFields
       turn l =
@@ -224,7 +215,8 @@ module _ (s : List ℕ) (at at′ count k : ℕ) (table : List ℕ) where
                 o .of (x .head) (m .0) (x .end) (d .head) (d .end) (l .seen) (m .1)
                 (pattern-stands s p (x .head) (x .end) (x .here) (a .under))
                 (field-text s f (d .head) (d .end) (d .here) (b .name))
-                (field-type s f (d .head) (d .end) (d .here) (b .under)) (l .passed);
+                (field-type s f (d .head) (d .end) (d .here) (b .under))
+                (passed-known s at i p (l .seen) (x .head) (x .end) v e (l .place) (x .here) (l .passed));
             same = (λ i. joined (l .made) (judgeFields (l .seen) (sym (d .split) i) (sym (x .split) i))) ∙ l .same;
           }
 
@@ -247,7 +239,7 @@ module _ (s : List ℕ) (at at′ count k : ℕ) (table : List ℕ) where
       }
 
       pub fields-more : {p′ f′ : ℕ} → r .blame ≡ Nothing → length now′ ≡ length now → Past s (own .under) p′ → Past s (decl .under) f′ → Walking s at at′ count k table (i + 1) p′ f′ (j + r .words) now′
-      unfolding stepped blameOf
+      unfolding blameOf
       fields-more y z past past′ = record {
         size = z ∙ g .size;
         few = g .few;
@@ -269,7 +261,7 @@ module _ (s : List ℕ) (at at′ count k : ℕ) (table : List ℕ) where
               made = joined (l .made) made;
               given = rw (sym w) (entered-at end (t .field .rest));
               declared = rw (sym w) (entered-at (field-ends s f (t .decl .head) (t .decl .end) (t .decl .here) (b .under) past′) (t .decl .rest));
-              place = end ∙ sym (after-is pattern-field-laws s (past .each) p (t .field .head) (t .field .end) (t .field .here)) ∙ ap (afterItem s) (l .place) ∙ ap (stepped s at) (sym (add-one i));
+              place = stepped-more s at i (l .place) (end ∙ sym (after-is pattern-field-laws s (past .each) p (t .field .head) (t .field .end) (t .field .here)));
               passed = passed-more s at i p (l .seen) (t .field .head) (t .field .end) (l .place) (t .field .here) (l .passed);
               so-far = subst (λ (b : Blame). Binds s table k (joined (l .made) made) (record { blame = b; words = j + r .words }) now′) y (binds-join (l .so-far) (t .own));
               same = joined-joined (l .made) made rest ∙ ap (joined (l .made)) (sym e) ∙ t .same;

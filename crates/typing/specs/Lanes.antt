@@ -26,3 +26,9 @@ pub record Lanes (s table : List ℕ) (k : ℕ) (heads links : List ℕ) : Type 
   pub link-low : (i : ℕ) → i < k → getD links i 0 ≤ i
   pub link-on : (i : ℕ) → i < k → 0 < getD links i 0 → laneOf s table (getD links i 0 - 1) ≡ laneOf s table i
   pub link-last : (i j : ℕ) → i < k → j < i → getD links i 0 ≤ j → laneOf s table j ≡ laneOf s table i → ⊥
+
+-- a table of n pairs, the first k of them on their lanes
+pub record Laned (n : ℕ) (s table : List ℕ) (k : ℕ) (heads links : List ℕ) : Type 0 where
+  pub size : length table ≡ 2 * n
+  pub links-size : length links ≡ n
+  pub lanes : Lanes s table k heads links

@@ -8,7 +8,7 @@ use Rattle.reading.specs.Read.{ok}
 use Rattle.reading.specs.Expr.{Expr, readExpr}
 use Rattle.reading.specs.Skip.{textAt}
 use Rattle.typing.specs.Names.{firstCalled}
-use Rattle.typing.specs.Lanes.{Lanes}
+use Rattle.typing.specs.Lanes.{Laned}
 use Rattle.typing.specs.Guards as guards
 use Rattle.typing.specs.Guards.{against, contradictoryEqualities}
 use Rattle.typing.specs.Equalities.{nameIn, listed, equalitiesOf, equalityOf}
@@ -31,10 +31,8 @@ clashing seen [] = none
 clashing seen (e ∷ es) = against (λ now. clashing now es) seen e (firstCalled nameIn (e .name) seen)
 
 -- a table of 4,096 pairs, with the first k on their lanes
-pub record Room (s table : List ℕ) (k : ℕ) (heads links : List ℕ) : Type 0 where
-  pub size : length table ≡ 8192
-  pub links-size : length links ≡ 4096
-  pub lanes : Lanes s table k heads links
+abbrev pub Room : List ℕ → List ℕ → ℕ → List ℕ → List ℕ → Type 0
+Room = Laned 4096
 
 -- pair k is put
 pub record Adds (s : List ℕ) (n v : ℕ) (table : List ℕ) (k : ℕ) (table′ heads links : List ℕ) : Type 0 where

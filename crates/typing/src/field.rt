@@ -6,17 +6,23 @@ use crate::cause::Cause;
 use crate::cause::Within;
 use crate::fill::after_head;
 use crate::fill::store;
+use crate::lanes::lane_add;
+use crate::lanes::lane_find;
 use crate::names::same;
 use crate::pattern::pattern_expr_compatible;
 use crate::rules::Fit;
+use crate::table::Found;
 use crate::table::after;
 use crate::table::after_case;
 use reading::text_at;
-ghost use Prim.Native.Nat.{_+_};
+ghost use Prim.Native.Nat.{_+_, _<_};
 ghost use mathlib.Core.Path.{_≡_};
 ghost use lib.ListN.{set};
+ghost use lib.Dec.{ltb};
+ghost use Rattle.reading.specs.Read.{pick};
 ghost use Rattle.typing.specs.Blames.{Spares};
-ghost use Rattle.typing.specs.Fields.{PartsAt, fieldNamed, namedFrom, NamesField, FitsField, JudgesField, JudgesFields};
+ghost use Rattle.typing.specs.Lanes.{Lanes, Laned};
+ghost use Rattle.typing.specs.Fields.{PartsAt, fieldNamed, namedFrom, Apart, namedAmong, PutsName, NamesField, FitsField, JudgesField, JudgesFields};
 
 // The name of a pattern's field, by its place: none, one that an earlier field has, or a new one.
 pub enum Naming {
@@ -67,7 +73,7 @@ fn named_from<'a>(doc: &'a [u8], at: usize, fields: u8, name: &'a [u8]) -> bool
     false
 }
 
-// The name of a field that stands at a place, by the fields before it: so many from the first on.
+// The name of a field that stands at a place, by so many fields from the first on.
 fn field_name(doc: &[u8], name: usize, first: usize, passed: u8) -> Naming
     ensures { λ r. ⌜ NamesField (now (doc .entry)) name first passed r ⌝ }
 {
@@ -106,7 +112,8 @@ fn store_pair(table: &mut [usize], k: usize, j: usize, name: usize, ty: usize)
     store(table, w + 1, ty);
 }
 
-// What is wrong with a field, of the declared field, by the parts of both and the fields before it; and what it binds, from word k + j on.
+// What is wrong with a field, of the declared field, by the parts of both and so many fields from the first on; and what it binds, from
+// word k + j on.
 fn judge_field(
     doc: &[u8],
     own: Parts,
@@ -139,6 +146,93 @@ fn judge_field(
     }
 }
 
+// Whether the pattern's field at a place has one of the first m names.
+fn named_among<'a>(
+    doc: &'a [u8],
+    at: usize,
+    names: &'a [usize],
+    m: usize,
+    heads: &'a [u16],
+    links: &'a [u16],
+) -> bool
+    requires { ⌜ Lanes (now doc) (now names) m (now heads) (now links) ⌝ }
+    ensures { λ r. ⌜ r ≡ namedAmong (now (doc .entry)) at (now (names .entry)) m ⌝ }
+{
+    let name = after_head(doc, at);
+    if null_at(doc, name) {
+        return false;
+    }
+    let f = lane_find(doc, names, m, heads, links, text_at(doc, name));
+    match f {
+        Found::At(_) => true,
+        Found::Nothing => false,
+    }
+}
+
+// Puts the name of the field at a place, where it has one, after the first m; how many there are then.
+fn put_name(
+    doc: &[u8],
+    at: usize,
+    names: &mut [usize],
+    m: usize,
+    heads: &mut [u16],
+    links: &mut [u16],
+) -> usize
+    requires { ⌜ Laned 255 (now doc) (now names) m (now heads) (now links) ⌝ }
+    requires { ⌜ m < 255 ⌝ }
+    ensures { λ r. ⌜ PutsName (now (doc .entry)) at (now (names .entry)) m r (now (names .exit)) (now (heads .exit)) (now (links .exit)) ⌝ }
+{
+    let name = after_head(doc, at);
+    if null_at(doc, name) {
+        return m;
+    }
+    names[2 * m] = name;
+    names[2 * m + 1] = name;
+    lane_add(doc, names, m, heads, links);
+    m + 1
+}
+
+// How many of so many fields from a place on stand before the first that has the name of one before it.
+fn apart_by_lanes(doc: &[u8], at: usize, count: u8) -> u8
+    ensures { λ r. ⌜ Apart (now (doc .entry)) at r ⌝ }
+{
+    let mut names = [0usize; 510];
+    let mut heads = [0u16; 1024];
+    let mut links = [0u16; 255];
+    let mut m: usize = 0;
+    let mut k = at;
+    let mut i: u8 = 0;
+    while i < count {
+        if named_among(doc, k, &names, m, &heads, &links) {
+            return i;
+        }
+        m = put_name(doc, k, &mut names, m, &mut heads, &mut links);
+        k = after(doc, k);
+        i += 1;
+    }
+    i
+}
+
+// The same of a long pattern; in a short one none is counted, since a search there is short.
+fn fields_apart(doc: &[u8], at: usize, count: u8) -> u8
+    ensures { λ r. ⌜ Apart (now (doc .entry)) at r ⌝ }
+{
+    if count < 16 {
+        return 0;
+    }
+    apart_by_lanes(doc, at, count)
+}
+
+// How many fields are searched for the name of number i: none where it is one of those apart, else all before it.
+fn searched(i: u8, apart: u8) -> u8
+    ensures { λ r. ⌜ r ≡ pick (ltb i apart) 0 i ⌝ }
+{
+    if i < apart {
+        return 0;
+    }
+    i
+}
+
 // The fields from a place on, of the declared fields from another, so many of both.
 pub(crate) fn judge_fields(
     doc: &[u8],
@@ -151,6 +245,7 @@ pub(crate) fn judge_fields(
     ensures { λ r. ⌜ JudgesFields (now (doc .entry)) at fields count (now (table .entry)) k r (now (table .exit)) ⌝ }
     ensures { λ r. ⌜ Spares (now (table .entry)) k r (now (table .exit)) ⌝ }
 {
+    let apart = fields_apart(doc, at, count);
     let mut p = at;
     let mut f = fields;
     let mut i: u8 = 0;
@@ -158,7 +253,8 @@ pub(crate) fn judge_fields(
     while i < count {
         let own = parts_at(doc, p);
         let decl = parts_at(doc, f);
-        let r = judge_field(doc, own, decl, at, i, table, k, j);
+        let passed = searched(i, apart);
+        let r = judge_field(doc, own, decl, at, passed, table, k, j);
         j += r.words;
         let blame = r.blame;
         let Blame::Nothing = blame else {

@@ -7,10 +7,10 @@ use Rattle.typing.proofs.field.judge_fields.Statement.{statement}
 use Rattle.typing.proofs.field.judge_fields.Tie as tie
 
 abbrev Inv-loop : tie.InvT-loop
-Inv-loop doc at fields count table₀ k p₀ f₀ i₀ j₀ table p f i j = Walking doc at fields count k table₀ i p f j table
+Inv-loop doc at fields count table₀ k apart p₀ f₀ i₀ j₀ table p f i j = Walking doc at fields count k table₀ i p f j table
 
 abbrev μ-loop : tie.MeasureT-loop
-μ-loop doc at fields count table₀ k p₀ f₀ i₀ j₀ table p f i j = count - i
+μ-loop doc at fields count table₀ k apart p₀ f₀ i₀ j₀ table p f i j = count - i
 
 pub judge-fields-spec : {M : Type 1} → statement M
 judge-fields-spec =
@@ -18,7 +18,9 @@ judge-fields-spec =
     (tie.spec
     Inv-loop
     μ-loop
+    (λ c κs. search needs)
     (λ c. fields-start _ _ _ _ _ _ (omega arith))
+    (λ c κs. search needs)
     (λ c κs. search needs)
     (λ c κs. search needs)
     (λ c κs. search needs)

@@ -2,7 +2,8 @@
 use native.Mathlib.Omega.{arith}
 use lib.ListN.{length-set}
 use borrow.Author.Needs.{needs}
-use Rattle.typing.proofs.SeenLaws.{pair-lanes, pair-added}
+use Rattle.typing.proofs.LaneLaws.{pair-lanes}
+use Rattle.typing.proofs.SeenLaws.{pair-added}
 use Rattle.typing.proofs.seen.add_equality.Statement.{statement}
 use Rattle.typing.proofs.seen.add_equality.Tie as tie
 
