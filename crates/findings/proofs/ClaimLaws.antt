@@ -3,7 +3,7 @@ use Prim.Native.Nat.{ℕ, zero, suc, _+_, _*_, _/_, _<_, _≤_}
 use mathlib.Core.Path.{_≡_, refl, sym, ap, _∙_}
 use mathlib.Core.List.{List, [], _∷_, map}
 use mathlib.Core.Bool.{Bool, true, false, _||_}
-use mathlib.Core.Option.{Option, none, some}
+use mathlib.Core.Option.{Option, some}
 use native.Mathlib.Omega.{arith}
 use lib.ListN.{length, getD, getElem?, length-map}
 use Rattle.reading.specs.Read.{pick}
@@ -11,7 +11,6 @@ use Rattle.reading.specs.Limits.{maxDepth}
 use Rattle.reading.specs.Text.{Name}
 use Rattle.reading.specs.Module.{Property}
 use Rattle.reading.specs.Skip.{textAt}
-use Rattle.reading.proofs.Rules.{no}
 use Rattle.reading.proofs.Walks.{name-text}
 use Rattle.typing.specs.Causes.{causeWord}
 use Rattle.typing.specs.Names.{eqName}
@@ -24,6 +23,7 @@ use Rattle.typing.specs.Judges.{TypesFormula}
 use Rattle.typing.specs.declared.rules.Fit.{Fit}
 use Rattle.typing.specs.declared.table.Found.{Found}
 use Rattle.typing.specs.declared.table.Found.the-variants.{At, Nothing}
+use Rattle.typing.proofs.TableLaws.{given-at, given-not}
 use Rattle.typing.proofs.Agreement.{formula-agree}
 use Rattle.findings.specs.Lists.{Placed}
 use Rattle.findings.specs.Finding.{Note, note, noted}
@@ -40,20 +40,10 @@ module _ (s table : List ℕ) (i : ℕ) {name : ℕ} {w : Name} {f : Found} (a :
   earlier-as = e ∙ ap (λ (v : Name). found (findFirst s v table i)) (t ∙ ap (textAt s) a)
 
   pub earlier-yes : {k : ℕ} → f ≡ At k → true ≡ earlierIn s table i
-  unfolding given found
-  earlier-yes q = go (findFirst s (textAt s (getD table (2 * i) 0)) table i) earlier-as
-    where
-      go : (x : Option ℕ) → f ≡ found x → true ≡ given x
-      go none z = no (cc)
-      go (some k) z = refl
+  earlier-yes q = given-at _ earlier-as q
 
   pub earlier-no : f ≡ Nothing → false ≡ earlierIn s table i
-  unfolding given found
-  earlier-no q = go (findFirst s (textAt s (getD table (2 * i) 0)) table i) earlier-as
-    where
-      go : (x : Option ℕ) → f ≡ found x → false ≡ given x
-      go none z = refl
-      go (some k) z = no (cc)
+  earlier-no q = given-not _ earlier-as q
 
 -- names before place k, from the last of them on
 or-swap : (a b c : Bool) → (a || (b || c)) ≡ (b || (a || c))

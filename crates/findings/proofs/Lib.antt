@@ -1,5 +1,4 @@
 -- Laws that belong to no one function, from the lowest to the highest.
-pub mod Cycle
 pub mod SheetLaws
 pub mod NoteLaws
 pub mod RowLaws

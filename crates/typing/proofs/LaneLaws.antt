@@ -24,7 +24,7 @@ use Rattle.typing.proofs.TableLaws.{find-miss, find-kept}
 
 -- one byte more
 module _ (a : List ℕ) (h i p : ℕ) (e : print p (drop i a) ≡ print h a) where
-  pub print-more : (p′ : ℕ) → i < length a → p′ ≡ (p * 31 + getD a i 0) % 2 ^ 32 → print p′ (drop (i + 1) a) ≡ print h a
+  pub print-more : (p′ : ℕ) → i < length a → p′ ≡ (p * 16777619 + getD a i 0) % 2 ^ 32 → print p′ (drop (i + 1) a) ≡ print h a
   unfolding print
   print-more p′ l q = rw q (rw (drop-cons a i 0 l, ← add-one) at e)
 

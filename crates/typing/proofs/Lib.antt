@@ -1,5 +1,4 @@
 -- Laws that belong to no one function, from the lowest to the highest.
-pub mod Cycle
 pub mod FitLaws
 pub mod VersionLaws
 pub mod NameLaws

@@ -9,7 +9,7 @@ use Rattle.reading.specs.Skip.{textAt}
 -- a number made of bytes: equal bytes have equal prints
 unfoldable pub print : ℕ → List ℕ → ℕ
 print h [] = h
-print h (b ∷ bs) = print ((h * 31 + b) % 2 ^ 32) bs
+print h (b ∷ bs) = print ((h * 16777619 + b) % 2 ^ 32) bs
 
 -- the lane of pair j
 abbrev pub laneOf : List ℕ → List ℕ → ℕ → ℕ

@@ -8,11 +8,11 @@ ghost use lib.ListN.{length};
 ghost use Rattle.typing.specs.Table.{findFirst, found};
 ghost use Rattle.typing.specs.Lanes.{print, Lanes};
 
-// The print after one byte more.
+// The print after one byte more. The factor is large, so that names of a few bytes hardly ever share a print.
 fn next_print(h: u32, b: u8) -> u32
-    ensures { λ r. ⌜ r ≡ (h * 31 + b) % 2 ^ 32 ⌝ }
+    ensures { λ r. ⌜ r ≡ (h * 16777619 + b) % 2 ^ 32 ⌝ }
 {
-    let n = (h as u64) * 31 + b as u64;
+    let n = (h as u64) * 16777619 + b as u64;
     (n % 4294967296) as u32
 }
 

@@ -10,10 +10,7 @@ use crate::lang::ir::Ir;
 use crate::messages::{alike, output, ranked, run as run_program};
 use crate::offer::{Finder, Reader, Teller};
 use crate::original::findings;
-use crate::samples::{
-    bindings, claims, equalities, every_pair, faulty, growing, mentions, samples, sets, units,
-    Sample,
-};
+use crate::samples::{costly, every_pair, growing, samples, Sample};
 use std::cell::RefCell;
 use std::fs;
 use std::hint::black_box;
@@ -248,9 +245,8 @@ fn run(program: &Path, dir: &Path, mode: &str, times: u32) -> Result<f64, String
 const PROGRAM_ROUNDS: usize = 101;
 
 /// Two programs on each document through pipes, in turn, from start to end, and
-/// one that does nothing: the smallest document, the samples, one with several
-/// errors in each transition, two with nearly as many findings as the words
-/// hold, one with very many properties, and one whose guard is all equalities.
+/// one that does nothing: the smallest document, the samples, two with nearly
+/// as many findings as the words hold, and those made to cost most.
 pub fn programs(ours: &Path, rust: &Path, nothing: &Path) -> Result<(), String> {
     let sample = |name, ir: Ir| Sample {
         name,
@@ -258,15 +254,9 @@ pub fn programs(ours: &Path, rust: &Path, nothing: &Path) -> Result<(), String> 
     };
     let mut all = vec![sample("empty", ir(Vec::new()))];
     all.extend(samples());
-    all.push(sample("faulty", faulty()));
     all.push(sample("found", alike(81)));
     all.push(sample("ranked", ranked(81)));
-    all.push(sample("claims", claims()));
-    all.push(sample("equals", equalities()));
-    all.push(sample("mentions", mentions()));
-    all.push(sample("sets", sets()));
-    all.push(sample("bindings", bindings()));
-    all.push(sample("units", units()));
+    all.extend(costly());
     for sample in all {
         let due = output(&sample.bytes);
         let mut times = [Vec::new(), Vec::new(), Vec::new()];

@@ -4,12 +4,15 @@
 use crate::decode::{answer, decode};
 use crate::encode::encode;
 use crate::generate::build::{
-    bare, binary, enum_decl, event, group, int, ir, one, path, step, text,
+    bare, binary, bit, emit, enum_decl, event, field_pattern, group, holds, int, ir, one, path,
+    pattern, property, set, step, text, unit, unit_pattern, var, with_fields,
 };
 use crate::generate::cases::{self, cases};
 use crate::generate::rng::Rng;
 use crate::generate::{deep, disturb, limits, planted, seeds, valid, whole, Source};
-use crate::lang::ir::{BinOp, Ir, Module, Transition};
+use crate::lang::ir::{
+    BinOp, EventPattern, Expr, Ir, Module, PatternExpr, PatternField, Transition, Type,
+};
 use crate::lines::{print, LENT};
 use crate::original::findings;
 use crate::samples::joined;
@@ -304,6 +307,7 @@ fn any(rng: &mut Rng, source: &mut Source, number: usize) -> Vec<u8> {
             encode(&ir)
         }
         6 => encode(&guarded(rng)),
+        7..=9 => encode(&listed(rng)),
         _ => match rng.below(4) {
             0 => source.next().bytes,
             1 => whole::nearly_sound(rng).bytes,
@@ -339,6 +343,84 @@ fn guarded(rng: &mut Rng) -> Ir {
             ..step("A", "E", "A")
         }];
     })
+}
+
+/// How many entries a list has: few, about as many as are judged otherwise, or
+/// very many.
+fn length(rng: &mut Rng) -> usize {
+    rng.of(&[0, 1, 3, 14, 15, 16, 17, 18, 40, 255])
+}
+
+/// One of so many names.
+fn called(rng: &mut Rng, many: usize) -> String {
+    format!("x{}", rng.below(many))
+}
+
+fn value(rng: &mut Rng, many: usize) -> Expr {
+    match rng.chance(1, 2) {
+        true => int(1),
+        false => path(&[&called(rng, many)]),
+    }
+}
+
+/// A pattern of the event that has fields, or of one that has none.
+fn binding(rng: &mut Rng, fields: usize, many: usize) -> EventPattern {
+    let field = |k: usize| -> PatternField {
+        let name = match rng.below(8) {
+            0 => None,
+            1 => Some(called(rng, many)),
+            _ => Some(format!("y{k}")),
+        };
+        pattern(name.as_deref(), PatternExpr::Wildcard)
+    };
+    let fields: Vec<PatternField> = (0..fields).map(field).collect();
+    match rng.below(6) {
+        0 => event("E", Some(unit_pattern(&called(rng, many)))),
+        1 => event("E", None),
+        _ => event("E", Some(field_pattern("f", fields))),
+    }
+}
+
+/// Up to three modules whose lists are short or very long, of names that are
+/// declared, repeated or unknown.
+fn listed(rng: &mut Rng) -> Ir {
+    let modules = rng.between(1, 3);
+    let module = |k: usize| {
+        let many = rng.of(&[3, 30, 400]);
+        let fields = length(rng);
+        let names: Vec<String> = (0..fields).map(|k| format!("z{k}")).collect();
+        let typed: Vec<(&str, Type)> = names.iter().map(|n| (n.as_str(), bit(8))).collect();
+        let mut events = vec![with_fields("f", &typed)];
+        events.extend((0..length(rng)).take(254).map(|_| unit(&called(rng, many))));
+        let transition = |id: usize| Transition {
+            id,
+            priority: Some(id as u32),
+            pattern: binding(rng, fields, many),
+            guard: rng.chance(1, 3).then(|| value(rng, many)),
+            assignments: (0..length(rng))
+                .map(|_| set(&called(rng, many), value(rng, many)))
+                .collect(),
+            emits: (0..length(rng).min(20))
+                .map(|_| emit("E", Some("f"), vec![value(rng, many)]))
+                .collect(),
+            ..step("A", "E", "A")
+        };
+        Module {
+            enums: vec![enum_decl("State", &["A", "B"])],
+            initial_state: Some(text("A")),
+            transitions: (0..3).map(transition).collect(),
+            events: vec![group("E", events)],
+            outputs: vec![group("E", vec![with_fields("f", &[("g", bit(8))])])],
+            vars: (0..length(rng))
+                .map(|_| var(&called(rng, many), bit(8), value(rng, many)))
+                .collect(),
+            properties: (0..length(rng))
+                .map(|_| property(&called(rng, many), holds(value(rng, many))))
+                .collect(),
+            ..bare(&format!("M{k}"))
+        }
+    };
+    ir((0..modules).map(module).collect())
 }
 
 fn show(doc: &[u8], due: &[u8], given: &[u8]) {

@@ -73,7 +73,7 @@ pub fn growing() -> Vec<Sample> {
 
 /// One module of the mixed kind in which no name of its transitions is
 /// declared: each has several errors.
-pub fn faulty() -> Ir {
+fn faulty() -> Ir {
     ir(vec![Module {
         events: Vec::new(),
         outputs: Vec::new(),
@@ -82,9 +82,33 @@ pub fn faulty() -> Ir {
     }])
 }
 
+/// Documents made to cost a program most.
+pub fn costly() -> Vec<Sample> {
+    let all = [
+        ("faulty", faulty()),
+        ("claims", claims()),
+        ("repeats", repeats()),
+        ("unused", unused()),
+        ("dead", dead()),
+        ("unknown", unknown()),
+        ("equals", equalities()),
+        ("units", units()),
+        ("bindings", bindings()),
+        ("sets", sets()),
+        ("mentions", mentions()),
+        ("bound", bound()),
+        ("variants", variants()),
+    ];
+    let sample = |(name, ir)| Sample {
+        name,
+        bytes: encode(&ir),
+    };
+    all.map(sample).to_vec()
+}
+
 /// 11 modules of as many properties and assumptions as there may be, all of
 /// different names.
-pub fn claims() -> Ir {
+fn claims() -> Ir {
     let named = |k: usize| property(&format!("p{k:03}"), holds(boolean(true)));
     let module = |k: usize| Module {
         properties: (0..255).map(named).collect(),
@@ -95,7 +119,7 @@ pub fn claims() -> Ir {
 }
 
 /// One transition whose guard is 3,900 equalities of as many names.
-pub fn equalities() -> Ir {
+fn equalities() -> Ir {
     let equal = |k: u8| {
         let name: String = [k / 16, k % 16]
             .map(|d| char::from(b'a' + d))
@@ -134,18 +158,74 @@ pub fn joined(op: BinOp, mut row: Vec<Expr>) -> Expr {
     }
 }
 
+/// As many names as a list may have, which begin alike.
+fn names(start: &str) -> Vec<String> {
+    (0..255).map(|k| format!("{start}{k:03}")).collect()
+}
+
+fn crowd() -> Vec<VarDecl> {
+    let named = |n: &String| var(n, bit(8), int(0));
+    names("v").iter().map(named).collect()
+}
+
+fn units_of_all() -> Vec<ConstructorVariant> {
+    names("u").iter().map(|n| unit(n)).collect()
+}
+
 /// A module with as many variables as there may be, and some transitions.
 fn crowded(transitions: Vec<Transition>) -> Ir {
-    let named = |k: usize| var(&format!("v{k:03}"), bit(8), int(0));
     ir(vec![Module {
-        vars: (0..255).map(named).collect(),
+        vars: crowd(),
         transitions,
         ..mixed("Link", 0, 1)
     }])
 }
 
+/// 12 modules alike, under names of their own.
+fn twelve(module: Module) -> Ir {
+    let named = |k: usize| Module {
+        name: format!("M{k}"),
+        ..module.clone()
+    };
+    ir((0..12).map(named).collect())
+}
+
+/// 12 modules of 255 variables that nothing mentions.
+fn unused() -> Ir {
+    twelve(Module {
+        vars: crowd(),
+        ..mixed("M", 0, 0)
+    })
+}
+
+/// 12 modules of 255 events that no pattern uses.
+fn dead() -> Ir {
+    twelve(Module {
+        events: vec![group("Net", units_of_all())],
+        vars: Vec::new(),
+        ..mixed("M", 0, 0)
+    })
+}
+
+/// 12 modules of 255 properties of one name.
+fn repeats() -> Ir {
+    twelve(Module {
+        properties: vec![property("p", holds(boolean(true))); 255],
+        ..bare("M")
+    })
+}
+
+/// 11 transitions that set a variable which is none of 255, 255 times each.
+fn unknown() -> Ir {
+    let step = |place: usize| Transition {
+        assignments: vec![set("w", int(1)); 255],
+        ..mixed_step(3 * place + 2)
+    };
+    crowded((0..11).map(step).collect())
+}
+
 /// One transition whose guard mentions one of 255 variables 4,400 times.
-pub fn mentions() -> Ir {
+fn mentions() -> Ir {
     let less = binary(BinOp::Lt, path(&["v000"]), path(&["v000"]));
     crowded(vec![Transition {
         guard: Some(joined(BinOp::LogicOr, vec![less; 2_200])),
@@ -154,7 +234,7 @@ pub fn mentions() -> Ir {
 }
 
 /// 16 transitions that set one of 255 variables 255 times each.
-pub fn sets() -> Ir {
+fn sets() -> Ir {
     let step = |place: usize| Transition {
         assignments: vec![set("v000", int(1)); 255],
         ..mixed_step(3 * place + 2)
@@ -163,33 +243,75 @@ pub fn sets() -> Ir {
 }
 
 /// 20 transitions whose patterns bind 255 fields each.
-pub fn bindings() -> Ir {
-    let names: Vec<String> = (0..255).map(|k| format!("f{k:03}")).collect();
-    let fields: Vec<(&str, Type)> = names.iter().map(|n| (n.as_str(), bit(8))).collect();
-    let bound = |n: &String| pattern(Some(n), PatternExpr::Wildcard);
+fn bindings() -> Ir {
     let step = |place: usize| Transition {
-        pattern: event(
-            "Net",
-            Some(field_pattern("all", names.iter().map(bound).collect())),
-        ),
+        pattern: binding_all(),
         ..mixed_step(3 * place + 2)
     };
     ir(vec![Module {
-        events: vec![group("Net", vec![with_fields("all", &fields)])],
+        events: event_of_all(),
         transitions: (0..20).map(step).collect(),
         ..mixed("Link", 0, 1)
     }])
 }
 
+/// An event of as many fields as there may be.
+fn event_of_all() -> Vec<ConstructorGroup> {
+    let names = names("f");
+    let fields: Vec<(&str, Type)> = names.iter().map(|n| (n.as_str(), bit(8))).collect();
+    vec![group("Net", vec![with_fields("all", &fields)])]
+}
+
+/// A pattern that binds them all.
+fn binding_all() -> EventPattern {
+    let names = names("f");
+    let bound = |n: &String| pattern(Some(n), PatternExpr::Wildcard);
+    let fields = names.iter().map(bound).collect();
+    event("Net", Some(field_pattern("all", fields)))
+}
+
+/// One transition whose pattern binds 255 fields, and whose guard mentions one
+/// of 255 variables 3,800 times.
+fn bound() -> Ir {
+    let less = binary(BinOp::Lt, path(&["v000"]), path(&["v000"]));
+    let step = Transition {
+        pattern: binding_all(),
+        guard: Some(joined(BinOp::LogicOr, vec![less; 1_900])),
+        ..mixed_step(2)
+    };
+    ir(vec![Module {
+        events: event_of_all(),
+        vars: crowd(),
+        transitions: vec![step],
+        ..mixed("Link", 0, 1)
+    }])
+}
+
+/// One transition whose guard names the last of 255 variants 3,200 times.
+fn variants() -> Ir {
+    let names = names("m");
+    let listed: Vec<&str> = names.iter().map(String::as_str).collect();
+    let last = path(&["Mode", "m254"]);
+    let equal = binary(BinOp::Eq, last.clone(), last);
+    let step = Transition {
+        guard: Some(joined(BinOp::LogicOr, vec![equal; 1_600])),
+        ..mixed_step(2)
+    };
+    ir(vec![Module {
+        enums: vec![enum_decl("State", &STATES), enum_decl("Mode", &listed)],
+        transitions: vec![step],
+        ..mixed("Link", 0, 1)
+    }])
+}
+
 /// Five modules of 255 transitions whose patterns name the last of 255 units.
-pub fn units() -> Ir {
-    let names: Vec<String> = (0..255).map(|k| format!("u{k:03}")).collect();
+fn units() -> Ir {
     let step = |place: usize| Transition {
         pattern: event("Net", Some(unit_pattern("u254"))),
         ..mixed_step(3 * place + 2)
     };
     let module = |k: usize| Module {
-        events: vec![group("Net", names.iter().map(|n| unit(n)).collect())],
+        events: vec![group("Net", units_of_all())],
         transitions: (0..255).map(step).collect(),
         ..mixed(&format!("M{k}"), 0, 1)
     };

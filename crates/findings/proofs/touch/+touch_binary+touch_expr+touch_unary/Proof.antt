@@ -18,7 +18,7 @@ use Rattle.typing.proofs.after_expr.Reads as after-expr-reads
 use Rattle.findings.proofs.touch.+touch_binary+touch_expr+touch_unary.{statement}
 use Rattle.findings.proofs.touch.+touch_binary+touch_expr+touch_unary.Tie.{close}
 use Rattle.reading.proofs.Arms.{beyond}
-use Rattle.findings.proofs.Cycle.{meets, below}
+use Rattle.reading.proofs.Cycle.{meets, below}
 use Rattle.findings.proofs.TouchLaws.{expr-deep, expr-no-tag, arm-int, arm-bool, arm-path, arm-unary, arm-binary, arm-beyond, unary-none, unary-goes, binary-none, binary-goes}
 
 abbrev μ-touch-binary : Measures 2 touch-binary-kinds.ps ℕ

@@ -13,7 +13,7 @@ use Rattle.typing.proofs.expr.after_expr.Reads as after-expr-reads
 use Rattle.typing.proofs.seen.note_equality.Reads as note-equality-reads
 use Rattle.typing.proofs.seen.+note_conjuncts+note_two.{statement}
 use Rattle.typing.proofs.seen.+note_conjuncts+note_two.Tie.{close}
-use Rattle.typing.proofs.Cycle.{meets, below}
+use Rattle.reading.proofs.Cycle.{meets, below}
 use Rattle.typing.proofs.SeenLaws.{notes-deep, notes-and, notes-one, kept-room, notes-left, notes-stop, notes-full}
 
 abbrev μ-note-conjuncts : Measures 4 note-conjuncts-kinds.ps ℕ
