@@ -1,10 +1,9 @@
 -- What is noted of an assignment and of a list of them, for whatever reads there.
 use Prim.Native.Nat.{ℕ, _+_, _/_, _<_, _≤_}
-use mathlib.Core.Path.{_≡_, refl, sym, ap, subst, _∙_}
+use mathlib.Core.Path.{_≡_, refl, sym, ap, _∙_}
 use mathlib.Core.List.{List, [], _∷_}
 use mathlib.Core.Bool.{true, false}
 use mathlib.Core.Option.{Option, none, some}
-use native.Mathlib.Omega.{arith}
 use lib.ListN.{length}
 use Rattle.reading.specs.Limits.{maxList}
 use Rattle.reading.specs.Item.{readCount}
@@ -22,7 +21,6 @@ use Rattle.reading.proofs.Views.{assignment-at}
 use Rattle.reading.proofs.Walks.{name-text}
 use Rattle.typing.specs.Env.{Env, given, Agree}
 use Rattle.typing.specs.Table.{afterItem, afterHead, findFirst, findIn, found, envAt, Past}
-use Rattle.typing.specs.Lanes.{Lanes}
 use Rattle.typing.specs.declared.table.Found.{Found}
 use Rattle.typing.specs.declared.table.Found.the-variants.{At, Nothing}
 use Rattle.typing.proofs.EnvLaws.{after-is, fields-head}
@@ -71,12 +69,6 @@ module _ (s : List ℕ) (i j : ℕ) (names enums : List ℕ) (owner : ℕ) (o : 
 -- what stands under a name in all pairs
 pub found-all : (s : List ℕ) (w : Name) (vars : List ℕ) {f : Found} → f ≡ found (findFirst s w vars (length vars / 2)) → f ≡ found (findIn s w vars)
 found-all s w vars e = e ∙ ap found (find-all s w vars)
-
--- the lanes of all pairs
-pub lanes-all : {s table : List ℕ} {k many : ℕ} {heads links : List ℕ} → Lanes s table k heads links → k ≤ many → many ≤ k → many ≡ length table / 2 → Lanes s table (length table / 2) heads links
-lanes-all {s} {table} {k} {heads = heads} {links = links} w a b e =
-    let q : k ≡ length table / 2 = omega arith in
-    subst (λ (m : ℕ). Lanes s table m heads links) q w
 
 -- what is known where the assignments are judged
 pub record Setting (s vars names enums : List ℕ) : Type 0 where

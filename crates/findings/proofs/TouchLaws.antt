@@ -1,6 +1,6 @@
 -- Marks of the variables whose names are mentioned: lists of names one after another, one name, an expression, and lists of the
 -- document entry by entry.
-use Prim.Native.Nat.{ℕ, suc, _+_, _-_, _*_, _/_, _<_, _≤_}
+use Prim.Native.Nat.{ℕ, suc, _+_, _-_, _*_, _/_, _%_, _<_, _≤_}
 use mathlib.Core.Path.{_≡_, refl, sym, ap, subst, _∙_}
 use mathlib.Core.Logic.{_⊎_, inl, inr}
 use mathlib.Core.Bool.{Bool, true, false, cond}
@@ -8,8 +8,8 @@ use mathlib.Core.List.{List, [], _∷_, _++_}
 use native.Mathlib.Omega.{arith}
 use lib.ListN.{length, getD, set, length-set, List·getD-eq-default}
 use lib.Seq.{getD-set-same, getD-set-other}
-use lib.Dec.{eqb}
-use borrow.Author.Tests.{eq-eqb, eqb-true, eqb-false}
+use lib.Dec.{eqb, ltb}
+use borrow.Author.Tests.{eq-eqb, eqb-true, eqb-false, ltb-true, ltb-false}
 use Rattle.reading.specs.Read.{ok, pick}
 use Rattle.reading.specs.Limits.{maxPath}
 use Rattle.reading.specs.Item.{readCase, readCount, readTag}
@@ -26,70 +26,33 @@ use Rattle.reading.specs.declared.item.Answer.the-variants.{Got, Refused}
 use Rattle.reading.specs.declared.item.Tag.{Tag}
 use Rattle.reading.specs.declared.item.Tagged.{Tagged}
 use Rattle.reading.specs.declared.item.Tagged.the-variants as tagged
-use Rattle.reading.proofs.Rules.{no}
+use Rattle.reading.proofs.Rules.{by, no}
 use Rattle.reading.proofs.Answers.{num, out}
 use Rattle.reading.proofs.ExprLaws.{name-laws, path-laws}
 use Rattle.reading.proofs.CaseViews.{expr-at}
 use Rattle.reading.proofs.ListViews.{list-at}
 use Rattle.reading.proofs.Walks.{name-text}
 use Rattle.typing.specs.Names.{eqName, member}
-use Rattle.typing.specs.Lanes.{print}
+use Rattle.typing.specs.Lanes.{print, laneOf, Lanes}
 use Rattle.typing.specs.Tells.{Ends}
 use Rattle.typing.specs.Table.{Past}
-use Rattle.typing.proofs.NameLaws.{eqName-eq, eqName-sym}
 use Rattle.typing.proofs.TableLaws.{tag-out}
 use Rattle.typing.proofs.EnvLaws.{entry, after-is}
 use Rattle.typing.proofs.TypeLaws.{fields-are}
 use Rattle.findings.specs.Lists.{each}
 use Rattle.findings.specs.Mentions.{soleName, collectNames}
-use Rattle.findings.specs.Touch.{varAt, isVar, mentions, Touched, AllMarked, VarTouched, Touches, TouchesExpr, TouchesUnary, TouchesBinary}
+use Rattle.findings.specs.Touch.{varAt, Touched, AllMarked, VarTouched, Touches, TouchesExpr, TouchesUnary, TouchesBinary}
+use Rattle.findings.proofs.LaneLaws.{lane-apart}
 
--- whether variable k is mentioned
-module _ (s names : List ℕ) (k : ℕ) where
-  mentions-append : (xs ys : List Name) → mentions s names k (xs ++ ys) ≡ pick (mentions s names k xs) true (mentions s names k ys)
-  unfolding mentions pick
-  mentions-append [] ys = refl
-  mentions-append (x ∷ xs) ys = rw (mentions-append xs ys) (go (isVar s names k x))
-    where
-      go : (b : Bool) → pick b true (pick (mentions s names k xs) true (mentions s names k ys)) ≡ pick (pick b true (mentions s names k xs)) true (mentions s names k ys)
-      go true = refl
-      go false = refl
-
-  -- one name: by the prints, and by the bytes
-  module _ (n : Name) where
-    var-near : getD names (2 * k + 1) 0 ≡ print 0 n → isVar s names k n ≡ eqName (varAt s names k) n
-    unfolding isVar pick
-    var-near e = rw (eq-eqb (getD names (2 * k + 1) 0) (print 0 n) e)
-
-    var-apart : (getD names (2 * k + 1) 0 ≡ print 0 n → ⊥) → isVar s names k n ≡ false
-    unfolding isVar pick
-    var-apart d = go (eqb (getD names (2 * k + 1) 0) (print 0 n)) refl
-      where
-        go : (b : Bool) → eqb (getD names (2 * k + 1) 0) (print 0 n) ≡ b → pick b (eqName (varAt s names k) n) false ≡ false
-        go true q = absurd (d (eqb-true (getD names (2 * k + 1) 0) (print 0 n) q))
-        go false q = refl
-
-    var-not : eqName (varAt s names k) n ≡ false → isVar s names k n ≡ false
-    unfolding isVar pick
-    var-not q = rw q (go (eqb (getD names (2 * k + 1) 0) (print 0 n)))
-      where
-        go : (b : Bool) → pick b false false ≡ false
-        go true = refl
-        go false = refl
-
-  -- where the table has the print of the variable's name: equal names have equal prints
-  module _ (p : getD names (2 * k + 1) 0 ≡ print 0 (varAt s names k)) where
-    var-is : (n : Name) → isVar s names k n ≡ eqName n (varAt s names k)
-    var-is n = go (eqName (varAt s names k) n) refl ∙ eqName-sym (varAt s names k) n
-      where
-        go : (b : Bool) → eqName (varAt s names k) n ≡ b → isVar s names k n ≡ eqName (varAt s names k) n
-        go true q = var-near n (p ∙ ap (print 0) (eqName-eq (varAt s names k) n q))
-        go false q = var-not n q ∙ sym q
-
-    pub mentions-member : (ns : List Name) → mentions s names k ns ≡ member (varAt s names k) ns
-    unfolding mentions member
-    mentions-member [] = refl
-    mentions-member (n ∷ ns) = rw (var-is n, mentions-member ns)
+-- a name of one list or of the other
+member-append : (n : Name) (xs ys : List Name) → member n (xs ++ ys) ≡ pick (member n xs) true (member n ys)
+unfolding member pick
+member-append n [] ys = refl
+member-append n (x ∷ xs) ys = rw (member-append n xs ys) (go (eqName x n))
+  where
+    go : (b : Bool) → pick b true (pick (member n xs) true (member n ys)) ≡ pick (pick b true (member n xs)) true (member n ys)
+    go true = refl
+    go false = refl
 
 cond-then : (a b : Bool) (x : ℕ) → cond b 1 (cond a 1 x) ≡ cond (pick a true b) 1 x
 unfolding pick
@@ -100,7 +63,7 @@ cond-then false b x = refl
 -- names mentioned one list after another
 module _ (s names : List ℕ) where
   pub touched-none : (m : List ℕ) → Touched s names m [] m
-  unfolding mentions
+  unfolding member
   touched-none m = record { size = refl; at = λ k h l. refl }
 
   pub touched-then : {m m′ m″ : List ℕ} {xs ys : List Name} → Touched s names m xs m′ → Touched s names m′ ys m″ → Touched s names m (xs ++ ys) m″
@@ -109,9 +72,9 @@ module _ (s names : List ℕ) where
     at = λ k h l.
         let z = p .size in
         q .at k h (omega arith)
-        ∙ ap (cond (mentions s names k ys) 1) (p .at k h l)
-        ∙ cond-then (mentions s names k xs) (mentions s names k ys) (getD m k 0)
-        ∙ ap (λ (b : Bool). cond b 1 (getD m k 0)) (sym (mentions-append s names k xs ys));
+        ∙ ap (cond (member (varAt s names k) ys) 1) (p .at k h l)
+        ∙ cond-then (member (varAt s names k) xs) (member (varAt s names k) ys) (getD m k 0)
+        ∙ ap (λ (b : Bool). cond b 1 (getD m k 0)) (sym (member-append (varAt s names k) xs ys));
   }
 
   -- the same names, told otherwise
@@ -124,7 +87,7 @@ cond-same true x e = e
 cond-same false x e = refl
 
 pub touched-full : (s names m : List ℕ) (ns : List Name) → ((k : ℕ) → k < length names / 2 → getD m k 0 ≡ 1) → Touched s names m ns m
-touched-full s names m ns f = record { size = refl; at = λ k h l. cond-same (mentions s names k ns) (getD m k 0) (f k h) }
+touched-full s names m ns f = record { size = refl; at = λ k h l. cond-same (member (varAt s names k) ns) (getD m k 0) (f k h) }
 
 module _ (names m : List ℕ) where
   pub some-free : AllMarked names m false
@@ -152,20 +115,20 @@ module _ (s : List ℕ) (key : ℕ) (w : Name) (k : ℕ) (m : List ℕ) where
   var-past h = record { size = refl; here = λ l. absurd (omega arith); other = λ j e. refl }
 
   pub var-marked : getD m k 0 ≡ 1 → VarTouched s key w k m m
-  var-marked e = record { size = refl; here = λ l. cond-same (eqName (textAt s key) w) (getD m k 0) e; other = λ j e. refl }
+  var-marked e = record { size = refl; here = λ l. cond-same (eqName w (textAt s key)) (getD m k 0) e; other = λ j e. refl }
 
-  module _ {text : Name} {b : Bool} (t : text ≡ textAt s key) (e : b ≡ eqName text w) where
+  module _ {text : Name} {b : Bool} (t : text ≡ textAt s key) (e : b ≡ eqName w text) where
     pub var-hit : k < length m → b ≡ true → VarTouched s key w k m (set m k 1)
     var-hit h q = record {
       size = length-set m k 1;
-      here = λ l. getD-set-same m k 1 0 l ∙ ap (λ (x : Bool). cond x 1 (getD m k 0)) (sym q ∙ e ∙ ap (λ (x : Name). eqName x w) t);
+      here = λ l. getD-set-same m k 1 0 l ∙ ap (λ (x : Bool). cond x 1 (getD m k 0)) (sym q ∙ e ∙ ap (eqName w) t);
       other = λ j d. getD-set-other m k j 1 0 d;
     }
 
     pub var-miss : b ≡ false → VarTouched s key w k m m
     var-miss q = record {
       size = refl;
-      here = λ l. ap (λ (x : Bool). cond x 1 (getD m k 0)) (sym q ∙ e ∙ ap (λ (x : Name). eqName x w) t);
+      here = λ l. ap (λ (x : Bool). cond x 1 (getD m k 0)) (sym q ∙ e ∙ ap (eqName w) t);
       other = λ j d. refl;
     }
 
@@ -177,56 +140,75 @@ last-or-before j k h = go (eqb j k) refl
     go true e = inl (eqb-true j k e)
     go false e = inr (let d = eqb-false j k e in omega arith)
 
--- one name: the first k variables are done
-module _ (s names : List ℕ) (w : Name) (m : List ℕ) where
-  pub record Touching (k : ℕ) (m′ : List ℕ) : Type 0 where
+-- one name: the walk along its lane has come to variable p - 1, those from p on are done, and those before keep their marks
+module _ (s names : List ℕ) (n : Name) (m : List ℕ) where
+  -- variable j is marked where it has the name
+  abbrev pub Turned : List ℕ → ℕ → Type 0
+  Turned m′ j = getD m′ j 0 ≡ cond (eqName n (varAt s names j)) 1 (getD m j 0)
+
+  pub record Touching (p : ℕ) (m′ : List ℕ) : Type 0 where
+    pub low : p ≤ length names / 2
+    pub on : 0 < p → laneOf s names (p - 1) ≡ print 0 n % 1024
     pub size : length m′ ≡ length m
-    pub done : (j : ℕ) → j < k → j < length m → getD m′ j 0 ≡ cond (isVar s names j w) 1 (getD m j 0)
-    pub kept : (j : ℕ) → k ≤ j → getD m′ j 0 ≡ getD m j 0
+    pub done : (j : ℕ) → p ≤ j → j < length names / 2 → j < length m → Turned m′ j
+    pub kept : (j : ℕ) → j < p → getD m′ j 0 ≡ getD m j 0
 
-  pub touching-none : Touching 0 m
-  touching-none = record { size = refl; done = λ j h. absurd (omega arith); kept = λ j h. refl }
+  -- a variable of another lane
+  apart : (j : ℕ) → (laneOf s names j ≡ print 0 n % 1024 → ⊥) → Turned m j
+  apart j d = ap (λ (b : Bool). cond b 1 (getD m j 0)) (sym (lane-apart (varAt s names j) n d))
 
-  module _ (k : ℕ) {m′ : List ℕ} (g : Touching k m′) where
-    -- one variable more, by what its mark is then
-    turned : {m″ : List ℕ} → length m″ ≡ length m′ → (k < length m → getD m″ k 0 ≡ cond (isVar s names k w) 1 (getD m k 0)) → ((j : ℕ) → (j ≡ k → ⊥) → getD m″ j 0 ≡ getD m′ j 0) → Touching (k + 1) m″
-    turned {m″} z here other = record {
-      size = z ∙ g .size;
-      done = λ j h l. go j l (last-or-before j k h);
-      kept = λ j h. other j (λ q. omega arith) ∙ g .kept j (omega arith);
-    }
-      where
-        go : (j : ℕ) → j < length m → (j ≡ k) ⊎ (j < k) → getD m″ j 0 ≡ cond (isVar s names j w) 1 (getD m j 0)
-        go j l (inl q) = subst (λ (x : ℕ). getD m″ x 0 ≡ cond (isVar s names x w) 1 (getD m x 0)) (sym q) (here (omega arith))
-        go j l (inr h) = other j (λ q. omega arith) ∙ g .done j h l
+  module _ {heads links : List ℕ} (w : Lanes s names (length names / 2) heads links) where
+    pub touching-start : {h : ℕ} → h ≡ print 0 n % 1024 → Touching (getD heads h 0) m
+    touching-start {h} e =
+        let l : h < 1024 = omega arith in
+        record {
+          low = w .head-low h l;
+          on = λ x. w .head-on h l x ∙ e;
+          size = refl;
+          done = λ j a b c. apart j (λ q. w .head-last h j l b a (q ∙ sym e));
+          kept = λ j a. refl;
+        }
 
-    module _ {p : ℕ} (e : p ≡ print 0 w) where
-      pub touching-near : {m″ : List ℕ} → getD names (2 * k + 1) 0 ≡ p → VarTouched s (getD names (2 * k) 0) w k m′ m″ → Touching (k + 1) m″
-      touching-near {m″} q v = turned (v .size) here (v .other)
+    module _ {p : ℕ} {m′ : List ℕ} (g : Touching p m′) (h : 0 < p) where
+      before : p - 1 < length names / 2
+      before = let z = g .low in omega arith
+
+      pub touching-less : getD links (p - 1) 0 < p
+      touching-less = let z = w .link-low (p - 1) before in omega arith
+
+      -- between two variables of the lane there is none of the name
+      between : (j : ℕ) → getD links (p - 1) 0 ≤ j → j < p - 1 → Turned m′ j
+      between j a l = g .kept j (omega arith) ∙ apart j (λ q. w .link-last (p - 1) j before l a (q ∙ sym (g .on h)))
+
+      pub touching-more : {m″ : List ℕ} → VarTouched s (getD names (2 * (p - 1)) 0) n (p - 1) m′ m″ → Touching (getD links (p - 1) 0) m″
+      touching-more {m″} v = record {
+        low = let y = g .low in let z = touching-less in omega arith;
+        on = λ x. w .link-on (p - 1) before x ∙ g .on h;
+        size = v .size ∙ g .size;
+        done = λ j a b c.
+            by (ltb j p)
+            (λ q. let l = ltb-true j p q in passed j a c (last-or-before j (p - 1) (omega arith)))
+            (λ q. let l = ltb-false j p q in v .other j (λ r. omega arith) ∙ g .done j l b c);
+        kept = λ j a. let z = touching-less in v .other j (λ q. omega arith) ∙ g .kept j (omega arith);
+      }
         where
-          here : k < length m → getD m″ k 0 ≡ cond (isVar s names k w) 1 (getD m k 0)
-          here l =
-              let z = g .size in
-              v .here (omega arith)
-              ∙ ap (cond (eqName (varAt s names k) w) 1) (g .kept k (omega arith))
-              ∙ ap (λ (b : Bool). cond b 1 (getD m k 0)) (sym (var-near s names k w (q ∙ e)))
+          here : p - 1 < length m → Turned m″ (p - 1)
+          here c = let z = g .size in v .here (omega arith) ∙ ap (cond (eqName n (varAt s names (p - 1))) 1) (g .kept (p - 1) (omega arith))
 
-      pub touching-apart : (getD names (2 * k + 1) 0 ≡ p → ⊥) → Touching (k + 1) m′
-      touching-apart d = turned refl here (λ j q. refl)
-        where
-          here : k < length m → getD m′ k 0 ≡ cond (isVar s names k w) 1 (getD m k 0)
-          here l = g .kept k (omega arith) ∙ ap (λ (b : Bool). cond b 1 (getD m k 0)) (sym (var-apart s names k w (λ q. d (q ∙ sym e))))
+          passed : (j : ℕ) → getD links (p - 1) 0 ≤ j → j < length m → (j ≡ p - 1) ⊎ (j < p - 1) → Turned m″ j
+          passed j a c (inl q) = rw q (here (omega arith))
+          passed j a c (inr l) = v .other j (λ q. omega arith) ∙ between j a l
 
-    pub touching-all : {count : ℕ} → count ≡ length names / 2 → count ≤ k → Touched s names m (w ∷ []) m′
-    unfolding mentions pick
-    touching-all e h = record {
-      size = g .size;
-      at = λ j a l. g .done j (omega arith) l ∙ ap (λ (b : Bool). cond b 1 (getD m j 0)) (sole (isVar s names j w));
-    }
-      where
-        sole : (b : Bool) → b ≡ pick b true false
-        sole true = refl
-        sole false = refl
+  pub touching-all : {p : ℕ} {m′ : List ℕ} → Touching p m′ → p ≤ 0 → Touched s names m (n ∷ []) m′
+  unfolding member pick
+  touching-all g h = record {
+    size = g .size;
+    at = λ j a l. g .done j (omega arith) a l ∙ ap (λ (b : Bool). cond b 1 (getD m j 0)) (sole (eqName n (varAt s names j)));
+  }
+    where
+      sole : (b : Bool) → b ≡ pick b true false
+      sole true = refl
+      sole false = refl
 
 -- a path
 module _ (s : List ℕ) (at : ℕ) (names m : List ℕ) {a : Answer} (e : a ≡ answer (readCount maxPath s at)) where

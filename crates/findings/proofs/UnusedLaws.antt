@@ -1,14 +1,13 @@
 -- The marks of a module's variables say which are mentioned; and a note for each that is not.
 use Prim.Native.Nat.{ℕ, zero, suc, _+_, _-_, _*_, _/_, _<_, _≤_}
-use mathlib.Core.Path.{_≡_, refl, sym, ap, subst, _∙_}
-use mathlib.Core.Logic.{_⊎_, inl, inr}
+use mathlib.Core.Path.{_≡_, ap, _∙_}
 use mathlib.Core.Bool.{Bool, true, false, cond, not}
 use mathlib.Core.List.{List, [], _∷_}
 use mathlib.Core.Option.{some}
 use native.Mathlib.Omega.{arith}
 use native.Mathlib.Nat.{sub-zero}
-use lib.ListN.{length, getD, getElem?, set, replicate, take, length-set, length-replicate, getD-replicate}
-use lib.Seq.{length-sets, length-take-le, getD-take, getD-set-same, getD-set-other}
+use lib.ListN.{length, getD, getElem?, replicate, take, length-replicate, getD-replicate}
+use lib.Seq.{length-sets, length-take-le}
 use lib.Dec.{eqb}
 use Rattle.reading.specs.Read.{ok}
 use Rattle.reading.specs.Limits.{maxList}
@@ -25,7 +24,6 @@ use Rattle.reading.proofs.ListViews.{list-at}
 use Rattle.reading.proofs.Walks.{name-text}
 use Rattle.typing.specs.Names.{member}
 use Rattle.typing.specs.Table.{pairsFrom, pairsOf, pairsAt, Filled}
-use Rattle.typing.specs.Lanes.{print}
 use Rattle.typing.proofs.TableLaws.{pairs-length}
 use Rattle.typing.proofs.EnvLaws.{entry, after-is, fields-head}
 use Rattle.findings.specs.Lists.{Placed, each}
@@ -34,12 +32,11 @@ use Rattle.findings.specs.Mentions.{allTouched}
 use Rattle.findings.specs.Warnings.{unused}
 use Rattle.findings.specs.Noting.{Noted}
 use Rattle.findings.specs.Scene.{Reads, Scene}
-use Rattle.findings.specs.Touch.{varAt, mentions, Printed, Vars, VarsFilled, TouchesAll, Marked, MarksUsed, NotesUnmarked}
+use Rattle.findings.specs.Touch.{varAt, Vars, VarsFilled, TouchesAll, Marked, MarksUsed, NotesUnmarked}
 use Rattle.findings.specs.WarningPromises.{NotesUnused}
 use Rattle.findings.proofs.NoteLaws.{note-as}
 use Rattle.findings.proofs.EachLaws.{Left, left-all, get-some, get-below, eachFrom, each-turn, each-done}
 use Rattle.findings.proofs.ClaimTables.{pairs-few, filled-front}
-use Rattle.findings.proofs.TouchLaws.{last-or-before, mentions-member}
 
 -- the name of variable i, by the table of a list of variables
 module _ (s : List ℕ) (B : Bytes s) where
@@ -63,58 +60,16 @@ module _ (s : List ℕ) (B : Bytes s) where
       let l = list-at readVarDecl s maxList at vs (g .end) (g .is) in
       rw (l .opens) (pairs-length (length vs) s (l .first), var-from vs (l .first) (g .end) (l .entries-are))
 
--- the prints put behind the names: the first k have theirs
-module _ (s table : List ℕ) where
-  pub record Printing (k : ℕ) (table′ : List ℕ) : Type 0 where
-    pub size : length table′ ≡ length table
-    pub place-is : (j : ℕ) → getD table′ (2 * j) 0 ≡ getD table (2 * j) 0
-    pub print-is : (j : ℕ) → j < k → getD table′ (2 * j + 1) 0 ≡ print 0 (varAt s table j)
-
-  pub printing-none : Printing 0 table
-  printing-none = record { size = refl; place-is = λ j. refl; print-is = λ j h. absurd (omega arith) }
-
-  module _ (k : ℕ) {table′ : List ℕ} (g : Printing k table′) where
-    pub printing-more : {p count words : ℕ} {name : Name} → k < count → count ≡ words / 2 → words ≤ length table′ → name ≡ textAt s (getD table′ (2 * k) 0) → p ≡ print 0 name → Printing (k + 1) (set table′ (2 * k + 1) p)
-    printing-more {p} h m b q e = record {
-      size = length-set table′ (2 * k + 1) p ∙ g .size;
-      place-is = λ j. getD-set-other table′ (2 * k + 1) (2 * j) p 0 (λ z. omega arith) ∙ g .place-is j;
-      print-is = λ j l. go j (last-or-before j k l);
-    }
-      where
-        here : getD (set table′ (2 * k + 1) p) (2 * k + 1) 0 ≡ print 0 (varAt s table k)
-        here = getD-set-same table′ (2 * k + 1) p 0 (omega arith) ∙ e ∙ ap (print 0) (q ∙ ap (textAt s) (g .place-is k))
-
-        go : (j : ℕ) → (j ≡ k) ⊎ (j < k) → getD (set table′ (2 * k + 1) p) (2 * j + 1) 0 ≡ print 0 (varAt s table j)
-        go j (inl z) = subst (λ (x : ℕ). getD (set table′ (2 * k + 1) p) (2 * x + 1) 0 ≡ print 0 (varAt s table x)) (sym z) here
-        go j (inr l) = getD-set-other table′ (2 * k + 1) (2 * j + 1) p 0 (λ z. omega arith) ∙ g .print-is j l
-
-    pub printing-all : (words : ℕ) {count : ℕ} → count ≡ words / 2 → count ≤ k → Printed s table words table′
-    printing-all words e h = record { size = g .size; place-is = g .place-is; print-is = λ j l. g .print-is j (omega arith) }
-
--- the table of the variables: the pairs of a list, with the prints
-module _ (s : List ℕ) (at : ℕ) {o t t′ : List ℕ} {r : ℕ} where
-  pub vars-filled : Filled o (pairsAt s at) r t → Printed s t r t′ → Bytes s → length o ≡ 512 → VarsFilled s at r t′
-  vars-filled f p B h = record { room = room; of = λ vs g. let n = var-names s B at vs g in vars vs (n .0) (n .1) }
+-- the table of the variables: the pairs of a list
+module _ (s : List ℕ) (at : ℕ) {o t : List ℕ} {r : ℕ} where
+  pub vars-filled : Filled o (pairsAt s at) r t → Bytes s → length o ≡ 512 → VarsFilled s at r t
+  vars-filled f B h = record { room = room; of = λ vs g. let n = var-names s B at vs g in rw front (record { room = n .0; at = n .1 }) }
     where
-      room : r ≤ length t′
-      room = let z = p .size in let l = ap length (f .words) ∙ length-sets o 0 (pairsAt s at) in omega (arith, f .many, pairs-few s at)
+      room : r ≤ length t
+      room = let l = ap length (f .words) ∙ length-sets o 0 (pairsAt s at) in omega (arith, f .many, pairs-few s at)
 
       front : take r t ≡ pairsAt s at
       front = filled-front o (pairsAt s at) (omega (arith, pairs-few s at)) f
-
-      place : (k : ℕ) → 2 * k < r → getD (take r t′) (2 * k) 0 ≡ getD (pairsAt s at) (2 * k) 0
-      place k b = getD-take r t′ (2 * k) 0 b ∙ p .place-is k ∙ sym (getD-take r t (2 * k) 0 b) ∙ ap (λ (x : List ℕ). getD x (2 * k) 0) front
-
-      vars : (vs : List VarDecl) → length (pairsAt s at) ≡ 2 * length vs → ((i : ℕ) (v : VarDecl) → getElem? vs i ≡ some v → varAt s (pairsAt s at) i ≡ v .name) → Vars s (take r t′) vs
-      vars vs m n = record {
-        room = length-take-le r t′ room ∙ f .many ∙ m;
-        at = λ k v e.
-            let b = get-below vs k v e in
-            let z = f .many in
-            let w : varAt s (take r t′) k ≡ v .name = ap (textAt s) (place k (omega arith)) ∙ n k v e in
-            let x : getD t (2 * k) 0 ≡ getD (take r t′) (2 * k) 0 = sym (getD-take r t′ (2 * k) 0 (omega arith) ∙ p .place-is k) in
-            record { name-is = w; print-is = getD-take r t′ (2 * k + 1) 0 (omega arith) ∙ p .print-is k (omega arith) ∙ ap (λ (y : ℕ). print 0 (textAt s y)) x ∙ ap (print 0) w };
-      }
 
 module _ (s places rows : List ℕ) (count : ℕ) {at r : ℕ} {table m m′ : List ℕ} (e : at ≡ getD places 7 0) (f : VarsFilled s at r table) (few : r ≤ 510) (t : TouchesAll s rows (take (r - 0) table) m m′ places count) (z : m ≡ replicate 256 0) where
   pub used-marked : MarksUsed s places rows count (r / 2) m′
@@ -125,14 +80,12 @@ module _ (s places rows : List ℕ) (count : ℕ) {at r : ℕ} {table m m′ : L
           let p = filled x c in
           let u = t .of x c w q in
           let i = p .room in
-          let b = p .at k v g in
           let l = get-below (x .vars) k v g in
           let a : getD m k 0 ≡ 0 = ap (λ (y : List ℕ). getD y k 0) z ∙ getD-replicate {A = ℕ} 256 k 0 0 (omega (arith, size)) in
           let y : length m ≡ 256 = ap length z ∙ length-replicate {A = ℕ} 256 0 in
           u .at k (omega arith) (omega (arith, size))
-          ∙ ap (cond (mentions s (take (r - 0) table) k (allTouched x)) 1) a
-          ∙ ap (λ (b : Bool). cond b 1 0) (mentions-member s (take (r - 0) table) k (b .print-is ∙ ap (print 0) (sym (b .name-is))) (allTouched x))
-          ∙ ap (λ (y : Name). cond (member y (allTouched x)) 1 0) (b .name-is);
+          ∙ ap (cond (member (varAt s (take (r - 0) table) k) (allTouched x)) 1) a
+          ∙ ap (λ (y : Name). cond (member y (allTouched x)) 1 0) (p .at k v g);
     };
   }
     where

@@ -1,12 +1,11 @@
 -- What the walk over mentioned names promises: for whatever reads there, the variables of the names in it are marked.
-use Prim.Native.Nat.{ℕ, _+_, _*_, _/_, _<_, _≤_}
+use Prim.Native.Nat.{ℕ, _*_, _/_, _<_, _≤_}
 use mathlib.Core.Path.{_≡_}
 use mathlib.Core.List.{List, [], _∷_, map}
-use mathlib.Core.Bool.{Bool, true, false, cond}
+use mathlib.Core.Bool.{Bool, true, cond}
 use mathlib.Core.Option.{Option, some}
 use lib.ListN.{length, getD, getElem?, take}
-use lib.Dec.{eqb}
-use Rattle.reading.specs.Read.{Reader, ok, pick}
+use Rattle.reading.specs.Read.{Reader, ok}
 use Rattle.reading.specs.Limits.{maxList}
 use Rattle.reading.specs.Item.{readCase}
 use Rattle.reading.specs.Text.{Name}
@@ -17,35 +16,25 @@ use Rattle.reading.specs.Transition.{OutputExpr, Assignment, Transition, readTo
 use Rattle.reading.specs.Module.{Module}
 use Rattle.reading.specs.Skip.{textAt}
 use Rattle.typing.specs.Names.{eqName, member}
-use Rattle.typing.specs.Lanes.{print}
 use Rattle.findings.specs.Lists.{each}
 use Rattle.findings.specs.Mentions.{collectNames, emitNames, touched, allTouched}
 use Rattle.findings.specs.Warnings.{unused}
 use Rattle.findings.specs.Noting.{Noted}
 use Rattle.findings.specs.Scene.{Reads, RowAt, Rows, Scene}
 
--- the name of variable k, by a table of the variables, two words each: the place of the name and its print
+-- the name of variable k, by a table of the variables, two words each: the first is the place of the name
 abbrev pub varAt : List ℕ → List ℕ → ℕ → Name
 varAt s names k = textAt s (getD names (2 * k) 0)
-
--- whether n is the name of variable k: by the prints, and where they are equal by the bytes; and whether one of the names is
-module _ (s names : List ℕ) (k : ℕ) where
-  unfoldable pub isVar : Name → Bool
-  isVar n = pick (eqb (getD names (2 * k + 1) 0) (print 0 n)) (eqName (varAt s names k) n) false
-
-  unfoldable pub mentions : List Name → Bool
-  mentions [] = false
-  mentions (n ∷ ns) = pick (isVar n) true (mentions ns)
 
 -- the names ns are mentioned: the variables of these names are marked, and the others keep their marks
 pub record Touched (s names m : List ℕ) (ns : List Name) (m′ : List ℕ) : Type 0 where
   pub size : length m′ ≡ length m
-  pub at : (k : ℕ) → k < length names / 2 → k < length m → getD m′ k 0 ≡ cond (mentions s names k ns) 1 (getD m k 0)
+  pub at : (k : ℕ) → k < length names / 2 → k < length m → getD m′ k 0 ≡ cond (member (varAt s names k) ns) 1 (getD m k 0)
 
 -- the same of one variable, whose name stands at a place
 pub record VarTouched (s : List ℕ) (key : ℕ) (w : Name) (k : ℕ) (m m′ : List ℕ) : Type 0 where
   pub size : length m′ ≡ length m
-  pub here : k < length m → getD m′ k 0 ≡ cond (eqName (textAt s key) w) 1 (getD m k 0)
+  pub here : k < length m → getD m′ k 0 ≡ cond (eqName w (textAt s key)) 1 (getD m k 0)
   pub other : (j : ℕ) → (j ≡ k → ⊥) → getD m′ j 0 ≡ getD m j 0
 
 -- what reads at a place, whose names are f of it; r is the place after it
@@ -113,20 +102,10 @@ module _ (s rows names m m′ : List ℕ) where
   pub record TouchesAll (places : List ℕ) (count : ℕ) : Type 0 where
     pub of : (x : Module) → Scene s places x → Rows s rows (x .transitions) → count ≡ length (x .transitions) → Touched s names m (allTouched x) m′
 
--- the pairs in the first words of a table get the prints of their names; the names stay where they are
-pub record Printed (s table : List ℕ) (words : ℕ) (table′ : List ℕ) : Type 0 where
-  pub size : length table′ ≡ length table
-  pub place-is : (k : ℕ) → getD table′ (2 * k) 0 ≡ getD table (2 * k) 0
-  pub print-is : (k : ℕ) → k < words / 2 → getD table′ (2 * k + 1) 0 ≡ print 0 (varAt s table k)
-
--- the words of variable k, and those of each variable
-pub record VarAt (s names : List ℕ) (k : ℕ) (v : VarDecl) : Type 0 where
-  pub name-is : varAt s names k ≡ v .name
-  pub print-is : getD names (2 * k + 1) 0 ≡ print 0 (v .name)
-
+-- the names of the variables are those of a table
 pub record Vars (s names : List ℕ) (vs : List VarDecl) : Type 0 where
   pub room : length names ≡ 2 * length vs
-  pub at : (k : ℕ) (v : VarDecl) → getElem? vs k ≡ some v → VarAt s names k v
+  pub at : (k : ℕ) (v : VarDecl) → getElem? vs k ≡ some v → varAt s names k ≡ v .name
 
 -- the first words of a table are those of the variables of a list
 pub record VarsFilled (s : List ℕ) (at words : ℕ) (table : List ℕ) : Type 0 where

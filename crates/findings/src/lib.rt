@@ -12,6 +12,7 @@ mod emits;
 mod errors;
 mod guard;
 mod impossible;
+mod lanes;
 mod links;
 mod mentions;
 mod module;

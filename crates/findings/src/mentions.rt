@@ -9,7 +9,10 @@ use reading::text_at;
 use typing::after;
 use typing::after_head;
 use typing::null_at;
+ghost use Prim.Native.Nat.{_/_};
+ghost use lib.ListN.{length};
 ghost use Rattle.reading.specs.Transition.{readTopExpr, readOnError};
+ghost use Rattle.typing.specs.Lanes.{Lanes};
 ghost use Rattle.findings.specs.Mentions.{guardNames, errorTouched};
 ghost use Rattle.findings.specs.Touch.{TouchesArgs, TouchesOutput, TouchesEmits, TouchesSet, TouchesSets, Mentions, TouchesRow, AllMarked, TouchesRows, TouchesAll};
 
@@ -18,8 +21,11 @@ pub(crate) fn touch_args<'a>(
     doc: &'a [u8],
     at: usize,
     names: &'a [usize],
+    heads: &'a [u16],
+    links: &'a [u16],
     marks: &mut [u8],
 ) -> usize
+    requires { ⌜ Lanes (now doc) (now names) (length (now names) / 2) (now heads) (now links) ⌝ }
     ensures { λ r. ⌜ TouchesArgs (now (doc .entry)) at (now (names .entry)) (now (marks .entry)) r (now (marks .exit)) ⌝ }
 {
     let c = Cursor { at };
@@ -30,7 +36,7 @@ pub(crate) fn touch_args<'a>(
     let mut k = first.at;
     let mut left = count;
     while 0 < left {
-        k = touch_expr(doc, k, 32, names, marks);
+        k = touch_expr(doc, k, 32, names, heads, links, marks);
         left -= 1;
     }
     k
@@ -41,14 +47,17 @@ pub(crate) fn touch_output<'a>(
     doc: &'a [u8],
     at: usize,
     names: &'a [usize],
+    heads: &'a [u16],
+    links: &'a [u16],
     marks: &mut [u8],
 ) -> usize
+    requires { ⌜ Lanes (now doc) (now names) (length (now names) / 2) (now heads) (now links) ⌝ }
     ensures { λ r. ⌜ TouchesOutput (now (doc .entry)) at (now (names .entry)) (now (marks .entry)) r (now (marks .exit)) ⌝ }
 {
     let group = after_head(doc, at);
     let variant = after(doc, group);
     let args = after(doc, variant);
-    touch_args(doc, args, names, marks)
+    touch_args(doc, args, names, heads, links, marks)
 }
 
 // The list of outputs at a place; the place after it.
@@ -56,8 +65,11 @@ pub(crate) fn touch_emits<'a>(
     doc: &'a [u8],
     at: usize,
     names: &'a [usize],
+    heads: &'a [u16],
+    links: &'a [u16],
     marks: &mut [u8],
 ) -> usize
+    requires { ⌜ Lanes (now doc) (now names) (length (now names) / 2) (now heads) (now links) ⌝ }
     ensures { λ r. ⌜ TouchesEmits (now (doc .entry)) at (now (names .entry)) (now (marks .entry)) r (now (marks .exit)) ⌝ }
 {
     let c = Cursor { at };
@@ -68,18 +80,26 @@ pub(crate) fn touch_emits<'a>(
     let mut k = first.at;
     let mut left = count;
     while 0 < left {
-        k = touch_output(doc, k, names, marks);
+        k = touch_output(doc, k, names, heads, links, marks);
         left -= 1;
     }
     k
 }
 
 // The variable that the set at a place sets; the place after it.
-pub(crate) fn touch_set<'a>(doc: &'a [u8], at: usize, names: &'a [usize], marks: &mut [u8]) -> usize
+pub(crate) fn touch_set<'a>(
+    doc: &'a [u8],
+    at: usize,
+    names: &'a [usize],
+    heads: &'a [u16],
+    links: &'a [u16],
+    marks: &mut [u8],
+) -> usize
+    requires { ⌜ Lanes (now doc) (now names) (length (now names) / 2) (now heads) (now links) ⌝ }
     ensures { λ r. ⌜ TouchesSet (now (doc .entry)) at (now (names .entry)) (now (marks .entry)) r (now (marks .exit)) ⌝ }
 {
     let var = after_head(doc, at);
-    touch(doc, names, text_at(doc, var), marks);
+    touch(doc, names, heads, links, text_at(doc, var), marks);
     let value = after(doc, var);
     after(doc, value)
 }
@@ -89,8 +109,11 @@ pub(crate) fn touch_sets<'a>(
     doc: &'a [u8],
     at: usize,
     names: &'a [usize],
+    heads: &'a [u16],
+    links: &'a [u16],
     marks: &mut [u8],
 ) -> usize
+    requires { ⌜ Lanes (now doc) (now names) (length (now names) / 2) (now heads) (now links) ⌝ }
     ensures { λ r. ⌜ TouchesSets (now (doc .entry)) at (now (names .entry)) (now (marks .entry)) r (now (marks .exit)) ⌝ }
 {
     let c = Cursor { at };
@@ -101,20 +124,28 @@ pub(crate) fn touch_sets<'a>(
     let mut k = first.at;
     let mut left = count;
     while 0 < left {
-        k = touch_set(doc, k, names, marks);
+        k = touch_set(doc, k, names, heads, links, marks);
         left -= 1;
     }
     k
 }
 
 // The guard at a place, if there is one.
-pub(crate) fn touch_guard<'a>(doc: &'a [u8], at: usize, names: &'a [usize], marks: &mut [u8])
+pub(crate) fn touch_guard<'a>(
+    doc: &'a [u8],
+    at: usize,
+    names: &'a [usize],
+    heads: &'a [u16],
+    links: &'a [u16],
+    marks: &mut [u8],
+)
+    requires { ⌜ Lanes (now doc) (now names) (length (now names) / 2) (now heads) (now links) ⌝ }
     ensures { λ _. ⌜ Mentions readTopExpr guardNames (now (doc .entry)) at (now (names .entry)) (now (marks .entry)) (now (marks .exit)) ⌝ }
 {
     if null_at(doc, at) {
         return;
     }
-    touch_expr(doc, at, 32, names, marks);
+    touch_expr(doc, at, 32, names, heads, links, marks);
 }
 
 // Transition i.
@@ -123,16 +154,19 @@ pub(crate) fn touch_row<'a>(
     rows: &'a [usize],
     i: u8,
     names: &'a [usize],
+    heads: &'a [u16],
+    links: &'a [u16],
     marks: &mut [u8],
 )
+    requires { ⌜ Lanes (now doc) (now names) (length (now names) / 2) (now heads) (now links) ⌝ }
     ensures { λ _. ⌜ TouchesRow (now (doc .entry)) (now (rows .entry)) (now (names .entry)) (now (marks .entry)) (now (marks .exit)) i ⌝ }
 {
     let guard = field(rows, i, 3);
-    touch_guard(doc, guard, names, marks);
+    touch_guard(doc, guard, names, heads, links, marks);
     let emits = field(rows, i, 5);
-    touch_emits(doc, emits, names, marks);
+    touch_emits(doc, emits, names, heads, links, marks);
     let sets = field(rows, i, 6);
-    touch_sets(doc, sets, names, marks);
+    touch_sets(doc, sets, names, heads, links, marks);
 }
 
 // Whether every variable is marked.
@@ -159,8 +193,11 @@ pub(crate) fn touch_rows<'a>(
     rows: &'a [usize],
     count: u8,
     names: &'a [usize],
+    heads: &'a [u16],
+    links: &'a [u16],
     marks: &mut [u8],
 )
+    requires { ⌜ Lanes (now doc) (now names) (length (now names) / 2) (now heads) (now links) ⌝ }
     ensures { λ _. ⌜ TouchesRows (now (doc .entry)) (now (rows .entry)) (now (names .entry)) (now (marks .entry)) (now (marks .exit)) count ⌝ }
 {
     let mut i: u8 = 0;
@@ -168,13 +205,21 @@ pub(crate) fn touch_rows<'a>(
         if all_marked(names, marks) {
             return;
         }
-        touch_row(doc, rows, i, names, marks);
+        touch_row(doc, rows, i, names, heads, links, marks);
         i += 1;
     }
 }
 
 // The outputs of on_error at a place, if there is one.
-pub(crate) fn touch_error<'a>(doc: &'a [u8], at: usize, names: &'a [usize], marks: &mut [u8])
+pub(crate) fn touch_error<'a>(
+    doc: &'a [u8],
+    at: usize,
+    names: &'a [usize],
+    heads: &'a [u16],
+    links: &'a [u16],
+    marks: &mut [u8],
+)
+    requires { ⌜ Lanes (now doc) (now names) (length (now names) / 2) (now heads) (now links) ⌝ }
     ensures { λ _. ⌜ Mentions readOnError errorTouched (now (doc .entry)) at (now (names .entry)) (now (marks .entry)) (now (marks .exit)) ⌝ }
 {
     if null_at(doc, at) {
@@ -182,7 +227,7 @@ pub(crate) fn touch_error<'a>(doc: &'a [u8], at: usize, names: &'a [usize], mark
     }
     let next = after_head(doc, at);
     let emits = after(doc, next);
-    touch_emits(doc, emits, names, marks);
+    touch_emits(doc, emits, names, heads, links, marks);
 }
 
 // A whole module, by the places of its fields and the rows of its transitions.
@@ -192,11 +237,14 @@ pub(crate) fn touch_all<'a>(
     rows: &'a [usize],
     count: u8,
     names: &'a [usize],
+    heads: &'a [u16],
+    links: &'a [u16],
     marks: &mut [u8],
 )
+    requires { ⌜ Lanes (now doc) (now names) (length (now names) / 2) (now heads) (now links) ⌝ }
     ensures { λ _. ⌜ TouchesAll (now (doc .entry)) (now (rows .entry)) (now (names .entry)) (now (marks .entry)) (now (marks .exit)) (now (places .entry)) count ⌝ }
 {
-    touch_rows(doc, rows, count, names, marks);
+    touch_rows(doc, rows, count, names, heads, links, marks);
     let at = word(places, 2);
-    touch_error(doc, at, names, marks);
+    touch_error(doc, at, names, heads, links, marks);
 }

@@ -1,5 +1,6 @@
 // What is noted of the assignments of a transition.
 use crate::cause::note_typed;
+use crate::lanes::add_all;
 use crate::sheet::emit;
 use reading::Answer;
 use reading::Cursor;
@@ -8,7 +9,6 @@ use typing::Found;
 use typing::after;
 use typing::after_head;
 use typing::find;
-use typing::lane_add;
 use typing::lane_find;
 ghost use mathlib.Core.Path.{_≡_};
 ghost use Prim.Native.Nat.{_+_, _/_, _≤_, _^_};
@@ -78,21 +78,6 @@ fn note_set<'a>(
     let var = after_head(doc, at);
     let f = find(doc, vars, text_at(doc, var));
     note_found(doc, var, f, i, j, names, enums, out, skip, n, owner)
-}
-
-// Puts all pairs of a table on their lanes.
-fn add_all(doc: &[u8], table: &[usize], heads: &mut [u16], links: &mut [u16])
-    requires { ⌜ Lanes (now doc) (now table) 0 (now heads) (now links) ⌝ }
-    requires { ⌜ length (now table) ≤ 510 ⌝ }
-    requires { ⌜ length (now links) ≡ 255 ⌝ }
-    ensures { λ _. ⌜ Lanes (now (doc .entry)) (now (table .entry)) (length (now (table .entry)) / 2) (now (heads .exit)) (now (links .exit)) ⌝ }
-{
-    let many = table.len() / 2;
-    let mut k: usize = 0;
-    while k < many {
-        lane_add(doc, table, k, heads, links);
-        k += 1;
-    }
 }
 
 // What stands under a name in a table, by the lanes of all its pairs.

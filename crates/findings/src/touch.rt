@@ -9,9 +9,11 @@ use typing::print_bytes;
 use typing::same;
 ghost use mathlib.Core.Path.{_≡_};
 ghost use mathlib.Core.List.{[], _∷_};
-ghost use lib.ListN.{getD};
+ghost use Prim.Native.Nat.{_/_, _%_, _<_};
+ghost use lib.ListN.{getD, length};
 ghost use lib.Dec.{eqb};
 ghost use Rattle.reading.specs.Expr.{readPath};
+ghost use Rattle.typing.specs.Lanes.{print, Lanes};
 ghost use Rattle.findings.specs.Mentions.{soleName};
 ghost use Rattle.findings.specs.Touch.{Touched, VarTouched, Touches, TouchesExpr, TouchesUnary, TouchesBinary};
 
@@ -36,24 +38,37 @@ pub(crate) fn touch_var<'a>(doc: &'a [u8], key: usize, name: &'a [u8], k: usize,
     if marks[k] == 1 {
         return;
     }
-    if same(text_at(doc, key), name) {
+    if same(name, text_at(doc, key)) {
         marks[k] = 1;
     }
 }
 
-// Marks the variables of a name, which is compared only with those of its print.
-pub(crate) fn touch<'a>(doc: &'a [u8], names: &'a [usize], name: &'a [u8], marks: &mut [u8])
+// The lane of a name.
+fn lane_of(name: &[u8]) -> usize
+    ensures { λ r. ⌜ r ≡ print 0 (now (name .entry)) % 1024 ⌝ }
+    ensures { λ r. ⌜ r < 1024 ⌝ }
+{
+    (print_bytes(name, 0) % 1024) as usize
+}
+
+// Marks the variables of a name, which is compared only with those of its lane.
+pub(crate) fn touch<'a>(
+    doc: &'a [u8],
+    names: &'a [usize],
+    heads: &'a [u16],
+    links: &'a [u16],
+    name: &'a [u8],
+    marks: &mut [u8],
+)
+    requires { ⌜ Lanes (now doc) (now names) (length (now names) / 2) (now heads) (now links) ⌝ }
     ensures { λ _. ⌜ Touched (now (doc .entry)) (now (names .entry)) (now (marks .entry)) (now (name .entry) ∷ []) (now (marks .exit)) ⌝ }
 {
-    let print = print_bytes(name, 0) as usize;
-    let count = names.len() / 2;
-    let mut k: usize = 0;
-    while k < count {
-        if names[2 * k + 1] == print {
-            let key = names[2 * k];
-            touch_var(doc, key, name, k, marks);
-        }
-        k += 1;
+    let mut p = heads[lane_of(name)];
+    while 0 < p {
+        let i = (p - 1) as usize;
+        let key = names[2 * i];
+        touch_var(doc, key, name, i, marks);
+        p = links[i];
     }
 }
 
@@ -62,8 +77,11 @@ pub(crate) fn touch_path<'a>(
     doc: &'a [u8],
     at: usize,
     names: &'a [usize],
+    heads: &'a [u16],
+    links: &'a [u16],
     marks: &mut [u8],
 ) -> usize
+    requires { ⌜ Lanes (now doc) (now names) (length (now names) / 2) (now heads) (now links) ⌝ }
     ensures { λ r. ⌜ Touches readPath soleName (now (doc .entry)) at (now (names .entry)) (now (marks .entry)) r (now (marks .exit)) ⌝ }
 {
     let c = Cursor { at };
@@ -75,7 +93,7 @@ pub(crate) fn touch_path<'a>(
         return after(doc, at);
     }
     let k = first.at;
-    touch(doc, names, text_at(doc, k), marks);
+    touch(doc, names, heads, links, text_at(doc, k), marks);
     after(doc, k)
 }
 
@@ -85,8 +103,11 @@ pub(crate) fn touch_expr<'a>(
     at: usize,
     depth: u64,
     names: &'a [usize],
+    heads: &'a [u16],
+    links: &'a [u16],
     marks: &mut [u8],
 ) -> usize
+    requires { ⌜ Lanes (now doc) (now names) (length (now names) / 2) (now heads) (now links) ⌝ }
     ensures { λ r. ⌜ TouchesExpr (now (doc .entry)) at (now (names .entry)) (now (marks .entry)) r (now (marks .exit)) depth ⌝ }
 {
     if depth == 0 {
@@ -102,9 +123,9 @@ pub(crate) fn touch_expr<'a>(
     match case {
         0 => after_expr(doc, at, depth),
         1 => after_expr(doc, at, depth),
-        2 => touch_path(doc, k, names, marks),
-        3 => touch_unary(doc, k, depth - 1, names, marks),
-        4 => touch_binary(doc, k, depth - 1, names, marks),
+        2 => touch_path(doc, k, names, heads, links, marks),
+        3 => touch_unary(doc, k, depth - 1, names, heads, links, marks),
+        4 => touch_binary(doc, k, depth - 1, names, heads, links, marks),
         5..=u64::MAX => at,
     }
 }
@@ -115,8 +136,11 @@ fn touch_unary<'a>(
     at: usize,
     depth: u64,
     names: &'a [usize],
+    heads: &'a [u16],
+    links: &'a [u16],
     marks: &mut [u8],
 ) -> usize
+    requires { ⌜ Lanes (now doc) (now names) (length (now names) / 2) (now heads) (now links) ⌝ }
     ensures { λ r. ⌜ TouchesUnary (now (doc .entry)) at (now (names .entry)) (now (marks .entry)) r (now (marks .exit)) depth ⌝ }
 {
     let c = Cursor { at };
@@ -124,7 +148,7 @@ fn touch_unary<'a>(
     let Answer::Got(_, operand) = o else {
         return at;
     };
-    touch_expr(doc, operand.at, depth, names, marks)
+    touch_expr(doc, operand.at, depth, names, heads, links, marks)
 }
 
 // The same of a binary expression: left goes first.
@@ -133,8 +157,11 @@ fn touch_binary<'a>(
     at: usize,
     depth: u64,
     names: &'a [usize],
+    heads: &'a [u16],
+    links: &'a [u16],
     marks: &mut [u8],
 ) -> usize
+    requires { ⌜ Lanes (now doc) (now names) (length (now names) / 2) (now heads) (now links) ⌝ }
     ensures { λ r. ⌜ TouchesBinary (now (doc .entry)) at (now (names .entry)) (now (marks .entry)) r (now (marks .exit)) depth ⌝ }
 {
     let c = Cursor { at };
@@ -142,6 +169,6 @@ fn touch_binary<'a>(
     let Answer::Got(_, left) = o else {
         return at;
     };
-    let right = touch_expr(doc, left.at, depth, names, marks);
-    touch_expr(doc, right, depth, names, marks)
+    let right = touch_expr(doc, left.at, depth, names, heads, links, marks);
+    touch_expr(doc, right, depth, names, heads, links, marks)
 }

@@ -1,15 +1,14 @@
 // Variables that nothing mentions: site 23.
+use crate::lanes::add_all;
 use crate::mentions::touch_all;
 use crate::rows::word;
 use crate::sheet::emit_if;
 use crate::touch::is_free;
-use reading::text_at;
 use typing::fill_table;
-use typing::print_bytes;
 ghost use mathlib.Core.Path.{_≡_};
 ghost use Prim.Native.Nat.{_+_, _≤_, _^_};
 ghost use lib.ListN.{length, replicate};
-ghost use Rattle.findings.specs.Touch.{Printed, VarsFilled, MarksUsed, NotesUnmarked};
+ghost use Rattle.findings.specs.Touch.{VarsFilled, TouchesAll, MarksUsed, NotesUnmarked};
 ghost use Rattle.findings.specs.WarningPromises.{NotesUnused};
 
 // A note for each of so many variables that is not marked.
@@ -35,29 +34,31 @@ pub(crate) fn note_unmarked(
     m
 }
 
-// Puts the print of each name of a table's pairs, which take so many words, behind the name's place.
-fn put_prints(doc: &[u8], table: &mut [usize], words: usize)
-    requires { ⌜ words ≤ length (now table) ⌝ }
-    ensures { λ _. ⌜ Printed (now (doc .entry)) (now (table .entry)) words (now (table .exit)) ⌝ }
-{
-    let count = words / 2;
-    let mut k: usize = 0;
-    while k < count {
-        let name = text_at(doc, table[2 * k]);
-        table[2 * k + 1] = print_bytes(name, 0) as usize;
-        k += 1;
-    }
-}
-
-// Fills the table of the variables of the list at a place, the place of each one's name and its print; how many words it takes.
+// Fills the table of the variables of the list at a place; how many words it takes.
 fn fill_vars(doc: &[u8], at: usize, table: &mut [usize]) -> usize
     requires { ⌜ length (now table) ≡ 512 ⌝ }
     ensures { λ r. ⌜ VarsFilled (now (doc .entry)) at r (now (table .exit)) ⌝ }
     ensures { λ r. ⌜ r ≤ 510 ⌝ }
 {
-    let w = fill_table(doc, at, table);
-    put_prints(doc, table, w);
-    w
+    fill_table(doc, at, table)
+}
+
+// Marks the variables of a table that are mentioned: they are put on lanes first.
+fn touch_vars<'a>(
+    doc: &'a [u8],
+    places: &'a [usize],
+    rows: &'a [usize],
+    count: u8,
+    names: &'a [usize],
+    marks: &mut [u8],
+)
+    requires { ⌜ length (now names) ≤ 510 ⌝ }
+    ensures { λ _. ⌜ TouchesAll (now (doc .entry)) (now (rows .entry)) (now (names .entry)) (now (marks .entry)) (now (marks .exit)) (now (places .entry)) count ⌝ }
+{
+    let mut heads = [0u16; 1024];
+    let mut links = [0u16; 255];
+    add_all(doc, names, &mut heads, &mut links);
+    touch_all(doc, places, rows, count, names, &heads, &links, marks);
 }
 
 // Marks the variables that are mentioned; how many variables there are.
@@ -77,7 +78,7 @@ pub(crate) fn mark_used<'a>(
     let w = fill_vars(doc, at, table);
     let vars = w / 2;
     let many = vars as u8;
-    touch_all(doc, places, rows, count, &table[0..w], marks);
+    touch_vars(doc, places, rows, count, &table[0..w], marks);
     many
 }
 

@@ -9,10 +9,10 @@ use Rattle.findings.proofs.mentions.touch_rows.Statement.{statement}
 use Rattle.findings.proofs.mentions.touch_rows.Tie as tie
 
 abbrev Inv-loop : tie.InvT-loop
-Inv-loop doc rows count names marks₀ i₀ marks i = (i ≤ count) × (length marks ≡ length marks₀) × RowsLeft doc rows names marks₀ count i marks
+Inv-loop doc rows count names heads links marks₀ i₀ marks i = (i ≤ count) × (length marks ≡ length marks₀) × RowsLeft doc rows names marks₀ count i marks
 
 abbrev μ-loop : tie.MeasureT-loop
-μ-loop doc rows count names marks₀ i₀ marks i = count - i
+μ-loop doc rows count names heads links marks₀ i₀ marks i = count - i
 
 pub touch-rows-spec : {M : Type 1} → statement M
 touch-rows-spec =

@@ -8,10 +8,10 @@ use Rattle.findings.proofs.mentions.touch_sets.Statement.{statement}
 use Rattle.findings.proofs.mentions.touch_sets.Tie as tie
 
 abbrev Inv-loop : tie.InvT-loop
-Inv-loop doc at names marks₀ count k₀ left₀ marks k left = (length marks ≡ length marks₀) × SetsLeft doc at names marks₀ left k marks
+Inv-loop doc at names heads links marks₀ count k₀ left₀ marks k left = (length marks ≡ length marks₀) × SetsLeft doc at names marks₀ left k marks
 
 abbrev μ-loop : tie.MeasureT-loop
-μ-loop doc at names marks₀ count k₀ left₀ marks k left = left
+μ-loop doc at names heads links marks₀ count k₀ left₀ marks k left = left
 
 pub touch-sets-spec : {M : Type 1} → statement M
 touch-sets-spec =

@@ -1,21 +1,18 @@
--- Variable by variable: by its print, and by its name where the prints are equal.
+-- The variables of the name's lane, one after another.
 use mathlib.Core.Path.{_≡_}
-use mathlib.Core.Logic.{⊎-elim}
-use Prim.Native.Nat.{_-_, _/_, _≤_}
 use lib.ListN.{length}
 use native.Mathlib.Omega.{arith}
 use borrow.Author.Needs.{needs}
-use Rattle.typing.specs.Lanes.{print}
-use Rattle.findings.proofs.TouchLaws.{Touching, touching-none, touching-near, touching-apart, touching-all}
+use Rattle.typing.proofs.LaneLaws.{lane-room}
+use Rattle.findings.proofs.TouchLaws.{Touching, touching-start, touching-less, touching-more, touching-all}
 use Rattle.findings.proofs.touch.touch.Statement.{statement}
 use Rattle.findings.proofs.touch.touch.Tie as tie
 
 abbrev Inv-loop : tie.InvT-loop
-Inv-loop doc names name marks₀ p count k₀ marks k =
-    (k ≤ count) × (count ≡ length names / 2) × (p ≡ print 0 name) × (length marks ≡ length marks₀) × Touching doc names name marks₀ k marks
+Inv-loop doc names heads links name marks₀ p₀ marks p = (length marks ≡ length marks₀) × Touching doc names name marks₀ p marks
 
 abbrev μ-loop : tie.MeasureT-loop
-μ-loop doc names name marks₀ p count k₀ marks k = count - k
+μ-loop doc names heads links name marks₀ p₀ marks p = p
 
 pub touch-spec : {M : Type 1} → statement M
 touch-spec =
@@ -24,10 +21,9 @@ touch-spec =
     Inv-loop
     μ-loop
     (λ c κs. search needs)
-    (λ c. search needs)
-    (λ c. (omega arith, omega arith, search needs, omega arith, search touching-none))
     (λ c. omega arith)
-    (λ c. omega arith)
+    (λ c. search lane-room)
+    (λ c. (omega arith, search touching-start))
     (λ c. omega arith)
     (λ c. omega arith)
     (λ c. omega arith)
@@ -36,10 +32,7 @@ touch-spec =
     (λ c κs. search needs)
     (λ c. omega arith)
     (λ c. omega arith)
-    (λ c.
-    ⊎-elim
-    (λ w. (omega arith, omega arith, search needs, rw (w .6) (omega arith), rw (w .6) (search touching-near)))
-    (λ w. (omega arith, omega arith, search needs, rw (w .1) (omega arith), rw (w .1) (search touching-apart)))
-    (c .if1 .came))
+    (λ c. search touching-less)
+    (λ c. (omega arith, search touching-more))
     (λ c. omega arith)
     (λ c. search touching-all))

@@ -5,9 +5,9 @@ use native.Mathlib.Omega.{arith}
 use borrow.Author.Needs.{needs}
 use lib.ListN.{length}
 use Rattle.typing.specs.Lanes.{Lanes}
-use Rattle.findings.proofs.SetLaws.{lanes-all}
-use Rattle.findings.proofs.sets.add_all.Statement.{statement}
-use Rattle.findings.proofs.sets.add_all.Tie as tie
+use Rattle.findings.proofs.LaneLaws.{lanes-all}
+use Rattle.findings.proofs.lanes.add_all.Statement.{statement}
+use Rattle.findings.proofs.lanes.add_all.Tie as tie
 
 abbrev Inv-loop : tie.InvT-loop
 Inv-loop doc table heads₀ links₀ many k₀ heads links k =
