@@ -11,6 +11,7 @@ use Rattle.reading.specs.Limits.{maxDepth}
 use Rattle.reading.specs.Text.{Name}
 use Rattle.reading.specs.Module.{Property}
 use Rattle.reading.specs.Skip.{textAt}
+use Rattle.reading.proofs.Rules.{no}
 use Rattle.reading.proofs.Walks.{name-text}
 use Rattle.typing.specs.Causes.{causeWord}
 use Rattle.typing.specs.Names.{eqName}

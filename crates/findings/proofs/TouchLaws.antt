@@ -37,12 +37,12 @@ use Rattle.typing.specs.Lanes.{print, laneOf, Lanes}
 use Rattle.typing.specs.Tells.{Ends}
 use Rattle.typing.specs.Table.{Past}
 use Rattle.typing.proofs.TableLaws.{tag-out}
+use Rattle.typing.proofs.LaneLaws.{lane-apart}
 use Rattle.typing.proofs.EnvLaws.{entry, after-is}
 use Rattle.typing.proofs.TypeLaws.{fields-are}
 use Rattle.findings.specs.Lists.{each}
 use Rattle.findings.specs.Mentions.{soleName, collectNames}
 use Rattle.findings.specs.Touch.{varAt, Touched, AllMarked, VarTouched, Touches, TouchesExpr, TouchesUnary, TouchesBinary}
-use Rattle.findings.proofs.LaneLaws.{lane-apart}
 
 -- a name of one list or of the other
 member-append : (n : Name) (xs ys : List Name) → member n (xs ++ ys) ≡ pick (member n xs) true (member n ys)
@@ -155,7 +155,7 @@ module _ (s names : List ℕ) (n : Name) (m : List ℕ) where
 
   -- a variable of another lane
   apart : (j : ℕ) → (laneOf s names j ≡ print 0 n % 1024 → ⊥) → Turned m j
-  apart j d = ap (λ (b : Bool). cond b 1 (getD m j 0)) (sym (lane-apart (varAt s names j) n d))
+  apart j d = ap (λ (b : Bool). cond b 1 (getD m j 0)) (sym (lane-apart n (varAt s names j) (λ q. d (sym q))))
 
   module _ {heads links : List ℕ} (w : Lanes s names (length names / 2) heads links) where
     pub touching-start : {h : ℕ} → h ≡ print 0 n % 1024 → Touching (getD heads h 0) m

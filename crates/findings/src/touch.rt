@@ -5,15 +5,15 @@ use reading::Tagged;
 use reading::text_at;
 use typing::after;
 use typing::after_expr;
-use typing::print_bytes;
+use typing::lane_of;
 use typing::same;
 ghost use mathlib.Core.Path.{_≡_};
 ghost use mathlib.Core.List.{[], _∷_};
-ghost use Prim.Native.Nat.{_/_, _%_, _<_};
+ghost use Prim.Native.Nat.{_/_};
 ghost use lib.ListN.{getD, length};
 ghost use lib.Dec.{eqb};
 ghost use Rattle.reading.specs.Expr.{readPath};
-ghost use Rattle.typing.specs.Lanes.{print, Lanes};
+ghost use Rattle.typing.specs.Lanes.{Lanes};
 ghost use Rattle.findings.specs.Mentions.{soleName};
 ghost use Rattle.findings.specs.Touch.{Touched, VarTouched, Touches, TouchesExpr, TouchesUnary, TouchesBinary};
 
@@ -41,14 +41,6 @@ pub(crate) fn touch_var<'a>(doc: &'a [u8], key: usize, name: &'a [u8], k: usize,
     if same(name, text_at(doc, key)) {
         marks[k] = 1;
     }
-}
-
-// The lane of a name.
-fn lane_of(name: &[u8]) -> usize
-    ensures { λ r. ⌜ r ≡ print 0 (now (name .entry)) % 1024 ⌝ }
-    ensures { λ r. ⌜ r < 1024 ⌝ }
-{
-    (print_bytes(name, 0) % 1024) as usize
 }
 
 // Marks the variables of a name, which is compared only with those of its lane.

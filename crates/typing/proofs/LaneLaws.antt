@@ -179,7 +179,7 @@ module _ {n : ℕ} {s table : List ℕ} {k : ℕ} {heads links : List ℕ} (r : 
   pair-found w = rw (add-one k, pair-name, pair-value, find-kept s w table (put table k a v) k (words-kept table k a v))
 
 -- names of other lanes differ
-lane-apart : (x n : Name) → (print 0 x % 1024 ≡ print 0 n % 1024 → ⊥) → eqName x n ≡ false
+pub lane-apart : (x n : Name) → (print 0 x % 1024 ≡ print 0 n % 1024 → ⊥) → eqName x n ≡ false
 lane-apart x n h = by (eqName x n) (λ q. absurd (h (ap (λ (y : Name). print 0 y % 1024) (eqName-eq x n q)))) (λ q. q)
 
 module _ (s table : List ℕ) (n : Name) (p : ℕ) where

@@ -30,7 +30,7 @@ pub fn print_bytes(bytes: &[u8], h: u32) -> u32
 }
 
 // The lane of a name.
-fn lane_of(name: &[u8]) -> usize
+pub fn lane_of(name: &[u8]) -> usize
     ensures { λ r. ⌜ r ≡ print 0 (now (name .entry)) % 1024 ⌝ }
     ensures { λ r. ⌜ r < 1024 ⌝ }
 {

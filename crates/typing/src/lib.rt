@@ -54,6 +54,7 @@ pub use guard::contradictory_equalities;
 pub use guard::is_literal_false;
 pub use lanes::lane_add;
 pub use lanes::lane_find;
+pub use lanes::lane_of;
 pub use lanes::print_bytes;
 pub use names::same;
 pub use names::same_name;
