@@ -5,7 +5,7 @@ use mathlib.Core.Bool.{Bool, true, false}
 use mathlib.Core.List.{List, _++_}
 use native.Mathlib.Omega.{arith}
 use lib.Dec.{eqb, ltb}
-use borrow.Author.Tests.{eq-eqb, ne-eqb, le-ltb}
+use borrow.Author.Tests.{eq-eqb, ne-eqb, le-ltb, ltb-true}
 use Rattle.reading.specs.Read.{ok, pick}
 use Rattle.reading.specs.Item.{readKind, readBool}
 use Rattle.reading.specs.Text.{Name}
@@ -143,6 +143,9 @@ contradicts d s at r h = record { of = λ e n g. h .of e n e n g g ∙ sym (clas
 -- by the one pass, where the guard is long
 pub nothing-between : (at end : ℕ) → end < at → false ≡ ltb 511 (end - at)
 nothing-between at end h = sym (le-ltb 511 (end - at) (omega arith))
+
+pub long-less : (at end : ℕ) {b : Bool} {t : ℕ} → b ≡ ltb 511 (end - at) → b ≡ true → end - at ≡ t → at - at < t
+long-less at end e q z = let l = ltb-true 511 (end - at) (sym e ∙ q) in omega (arith, l)
 
 module _ (d : ℕ) (s : List ℕ) (at : ℕ) {x : Seen} (h : OnePass d s at x) where
   pub pass-none : {m : ℕ} → x ≡ seen.Many m → Contradicts d s at clash.Nothing

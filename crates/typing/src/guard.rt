@@ -99,7 +99,7 @@ fn is_long(at: usize, end: usize) -> bool
 }
 
 // A name that the guard at a place says to have two values, from right to left. The place where the guard is said to end only decides
-// between two ways to one answer.
+// between two ways to one answer: a long guard goes the other way too where the one pass has no room, as if it ended where it starts.
 pub fn contradictory_equalities(doc: &[u8], at: usize, end: usize, depth: u64) -> Clash
     ensures { λ r. ⌜ Contradicts depth (now (doc .entry)) at r ⌝ }
 {
@@ -108,7 +108,7 @@ pub fn contradictory_equalities(doc: &[u8], at: usize, end: usize, depth: u64) -
         return match r {
             Seen::Many(_) => Clash::Nothing,
             Seen::Clash(name, earlier, later) => Clash::Found(name, earlier, later),
-            Seen::Full => first_clash(doc, at, depth, at, depth),
+            Seen::Full => contradictory_equalities(doc, at, at, depth),
         };
     }
     first_clash(doc, at, depth, at, depth)
