@@ -20,8 +20,9 @@ use Rattle.reading.proofs.Views.{document-at}
 use Rattle.findings.specs.Finding.{Finding, words}
 use Rattle.findings.specs.Findings.{allErrors, allWarnings, findings}
 use Rattle.findings.specs.Sheet.{put}
-use Rattle.findings.specs.Walks.{WalksAll, Walked, PutsErrors, PutsWarnings, Replies, Lines, WarningLine}
+use Rattle.findings.specs.Walks.{WalksAll, Walked, PutsErrors, PutsWarnings, PutsAll, PutsKept, Replies, Lines, WarningLine}
 use Rattle.findings.specs.Reply.{tooMany, replyTo, sheetOf, lineOf, lineTo}
+use Rattle.findings.specs.declared.whole.Totals.{Totals}
 use Rattle.findings.specs.declared.reply.Reply.{Reply}
 use Rattle.findings.specs.declared.reply.Reply.the-variants.{Counts, Refused, Short}
 use Rattle.findings.specs.declared.reply.Line.{Line}
@@ -74,7 +75,7 @@ module _ (s : List ℕ) {e e′ w w′ : List ℕ} {a b : ℕ} (t : WalksAll s e
         ∙ ap (λ (y : ℕ). put (put o 0 0 (allErrors x)) 0 y (allWarnings x)) z
         ∙ put-append o 0 0 (allErrors x) (allWarnings x)
 
-  pub reply-short : (o : List ℕ) → length o < 5 * (a + b) → Replies s o (Short (a + b)) o
+  reply-short : (o : List ℕ) → length o < 5 * (a + b) → Replies s o (Short (a + b)) o
   unfolding replyTo sheetOf tooMany
   reply-short o h = record {
     of = λ x n g.
@@ -83,7 +84,7 @@ module _ (s : List ℕ) {e e′ w w′ : List ℕ} {a b : ℕ} (t : WalksAll s e
         (rw l (ap Short c), rw l);
   }
 
-  pub reply-written : (o o₁ o₂ : List ℕ) → 5 * (a + b) ≤ length o → PutsErrors s e′ a o o₁ → PutsWarnings s w′ a b o₁ o₂ → Replies s o (Counts a b) o₂
+  reply-written : (o o₁ o₂ : List ℕ) → 5 * (a + b) ≤ length o → PutsErrors s e′ a o o₁ → PutsWarnings s w′ a b o₁ o₂ → Replies s o (Counts a b) o₂
   unfolding replyTo sheetOf tooMany
   reply-written o o₁ o₂ h u v = record {
     of = λ x n g.
@@ -95,6 +96,30 @@ module _ (s : List ℕ) {e e′ w w′ : List ℕ} {a b : ℕ} (t : WalksAll s e
         let l : ltb (length o) (5 * length (findings x)) ≡ false = le-ltb (length o) (5 * length (findings x)) (omega arith) in
         (rw (l, i, j), rw l (both-put x n g u v ∙ put-whole (findings x) o (omega arith)));
   }
+
+-- from what a walk kept
+module _ (s e′ w′ : List ℕ) (t : Totals) where
+  pub all-short : (o : List ℕ) → length o < 5 * (t .errors + t .warnings) → PutsAll s e′ w′ t o (Short (t .errors + t .warnings)) o
+  all-short o h = record { of = λ e w z. reply-short s z o h }
+
+  pub all-written : (o o₁ o₂ : List ℕ) → 5 * (t .errors + t .warnings) ≤ length o → PutsErrors s e′ (t .errors) o o₁ → PutsWarnings s w′ (t .errors) (t .warnings) o₁ o₂ → PutsAll s e′ w′ t o (Counts (t .errors) (t .warnings)) o₂
+  all-written o o₁ o₂ h u v = record { of = λ e w z. reply-written s z o o₁ o₂ h u v }
+
+  pub all-put : {e w o o′ : List ℕ} {r : Reply} → WalksAll s e 0 0 (t .errors) e′ w 0 0 (t .warnings) w′ → PutsAll s e′ w′ t o r o′ → Replies s o r o′
+  all-put z p = p .of _ _ z
+
+-- where it kept all
+module _ (e′ w′ : List ℕ) (t : Totals) where
+  pub kept-short : (o : List ℕ) → length o < 5 * t .errors + 5 * t .warnings → PutsKept e′ w′ t o (Short (t .errors + t .warnings)) o
+  kept-short o h = record { of = λ s. all-short s e′ w′ t o (omega arith) }
+
+  pub kept-written : {o o₁ o₂ : List ℕ} → o₁ ≡ paste o 0 e′ (5 * t .errors) → o₂ ≡ paste o₁ (5 * t .errors) w′ (5 * t .warnings) → 5 * t .errors ≤ length e′ → 5 * t .warnings ≤ length w′ → 5 * t .errors + 5 * t .warnings ≤ length o → length o₁ ≡ length o → PutsKept e′ w′ t o (Counts (t .errors) (t .warnings)) o₂
+  kept-written {o} {o₁} {o₂} u v h i l m = record {
+    of = λ s. all-written s e′ w′ t o o₁ o₂ (omega arith) (errors-copied s e′ o o₁ h (omega arith) u) (warnings-copied s w′ o₁ o₂ i (omega arith) v);
+  }
+
+  pub kept-put : {s e w o o′ : List ℕ} {r : Reply} → WalksAll s e 0 0 (t .errors) e′ w 0 0 (t .warnings) w′ → PutsKept e′ w′ t o r o′ → Replies s o r o′
+  kept-put {s} z p = p .of s .of _ _ z
 
 -- the document's verdict
 module _ (s o : List ℕ) {v : Verdict} (e : v ≡ verdict (readDocument s)) where

@@ -16,6 +16,7 @@ use Rattle.findings.specs.Noting.{Noted}
 use Rattle.findings.specs.Scene.{Bytes, Reads, Rows, Scene}
 use Rattle.findings.specs.Prints.{Prints}
 use Rattle.findings.specs.Reply.{replyTo, sheetOf, lineTo}
+use Rattle.findings.specs.declared.whole.Totals.{Totals}
 use Rattle.findings.specs.declared.reply.Reply.{Reply}
 use Rattle.findings.specs.declared.reply.Line.{Line}
 
@@ -60,6 +61,14 @@ pub record PutsWarnings (s kept : List ℕ) (a b : ℕ) (o o′ : List ℕ) : Ty
 -- the answer to a document that reads, and the lent words afterwards
 pub record Replies (s o : List ℕ) (r : Reply) (o′ : List ℕ) : Type 0 where
   pub of : (x : Ir) (n : ℕ) → readDocument s ≡ ok x n → (r ≡ replyTo o (ok x n)) × (o′ ≡ sheetOf o (ok x n))
+
+-- the same from what a walk kept of the errors and of the warnings, and how many it counted
+pub record PutsAll (s e′ w′ : List ℕ) (t : Totals) (o : List ℕ) (r : Reply) (o′ : List ℕ) : Type 0 where
+  pub of : (e w : List ℕ) → WalksAll s e 0 0 (t .errors) e′ w 0 0 (t .warnings) w′ → Replies s o r o′
+
+-- where the walk kept all of them, whatever the document
+pub record PutsKept (e′ w′ : List ℕ) (t : Totals) (o : List ℕ) (r : Reply) (o′ : List ℕ) : Type 0 where
+  pub of : (s : List ℕ) → PutsAll s e′ w′ t o r o′
 
 -- finding number k of a document that reads
 pub record Lines (s : List ℕ) (k : ℕ) (r : Line) : Type 0 where

@@ -1,12 +1,13 @@
 // The answers to a document that reads.
 use crate::reply::Line;
 use crate::reply::Reply;
+use crate::whole::Totals;
 use crate::whole::walk_all;
 ghost use mathlib.Core.Path.{_≡_};
 ghost use Prim.Native.Nat.{_+_, _*_, _≤_};
 ghost use lib.ListN.{length};
 ghost use lib.Seq.{paste};
-ghost use Rattle.findings.specs.Walks.{PutsErrors, PutsWarnings, Replies, WarningLine, Lines};
+ghost use Rattle.findings.specs.Walks.{PutsErrors, PutsWarnings, PutsAll, PutsKept, Replies, WarningLine, Lines};
 
 // Copies so many words into another buffer, from its word at on.
 fn copy_words(from: &[u32], len: usize, out: &mut [u32], at: usize)
@@ -52,11 +53,12 @@ fn put_warnings(doc: &[u8], kept: &[u32], errors: usize, warnings: usize, out: &
     copy_words(kept, len, out, 5 * errors);
 }
 
-// All findings, where the words suffice: one walk keeps as many errors and warnings as two buffers have room for.
-fn reply_by(doc: &[u8], first: &mut [u32], second: &mut [u32], out: &mut [u32]) -> Reply
-    ensures { λ r. ⌜ Replies (now (doc .entry)) (now (out .entry)) r (now (out .exit)) ⌝ }
+// All findings, where the words suffice, from what a walk over the document kept and counted.
+fn put_all(doc: &[u8], first: &[u32], second: &[u32], totals: Totals, out: &mut [u32]) -> Reply
+    requires { ⌜ totals .errors ≤ 532733824 ⌝ }
+    requires { ⌜ totals .warnings ≤ 531656640 ⌝ }
+    ensures { λ r. ⌜ PutsAll (now (doc .entry)) (now (first .entry)) (now (second .entry)) totals (now (out .entry)) r (now (out .exit)) ⌝ }
 {
-    let totals = walk_all(doc, first, 0, 0, second, 0, 0);
     let errors = totals.errors;
     let warnings = totals.warnings;
     let all = errors + warnings;
@@ -68,22 +70,48 @@ fn reply_by(doc: &[u8], first: &mut [u32], second: &mut [u32], out: &mut [u32]) 
     Reply::Counts(errors, warnings)
 }
 
-// With room for 128 of each.
-fn reply_short(doc: &[u8], out: &mut [u32]) -> Reply
-    ensures { λ r. ⌜ Replies (now (doc .entry)) (now (out .entry)) r (now (out .exit)) ⌝ }
-{
-    let mut first = [0u32; 640];
-    let mut second = [0u32; 640];
-    reply_by(doc, &mut first, &mut second, out)
-}
-
-// With room for 819 of each.
+// All findings, where the words suffice, with room for 819 of each kind that a walk finds.
 fn reply_long(doc: &[u8], out: &mut [u32]) -> Reply
     ensures { λ r. ⌜ Replies (now (doc .entry)) (now (out .entry)) r (now (out .exit)) ⌝ }
 {
     let mut first = [0u32; 4095];
     let mut second = [0u32; 4095];
-    reply_by(doc, &mut first, &mut second, out)
+    let totals = walk_all(doc, &mut first, 0, 0, &mut second, 0, 0);
+    put_all(doc, &first, &second, totals, out)
+}
+
+// The same where the walk kept all of them.
+fn put_kept(first: &[u32], second: &[u32], totals: Totals, out: &mut [u32]) -> Reply
+    requires { ⌜ totals .errors ≤ 128 ⌝ }
+    requires { ⌜ totals .warnings ≤ 128 ⌝ }
+    requires { ⌜ length (now first) ≡ 640 ⌝ }
+    requires { ⌜ length (now second) ≡ 640 ⌝ }
+    ensures { λ r. ⌜ PutsKept (now (first .entry)) (now (second .entry)) totals (now (out .entry)) r (now (out .exit)) ⌝ }
+{
+    let errors = 5 * totals.errors;
+    let warnings = 5 * totals.warnings;
+    if out.len() < errors + warnings {
+        return Reply::Short(totals.errors + totals.warnings);
+    }
+    copy_words(first, errors, out, 0);
+    copy_words(second, warnings, out, errors);
+    Reply::Counts(totals.errors, totals.warnings)
+}
+
+// All findings, where the words suffice, with room for 128 of each kind, if that is enough.
+fn reply_short(doc: &[u8], out: &mut [u32]) -> Reply
+    ensures { λ r. ⌜ Replies (now (doc .entry)) (now (out .entry)) r (now (out .exit)) ⌝ }
+{
+    let mut first = [0u32; 640];
+    let mut second = [0u32; 640];
+    let totals = walk_all(doc, &mut first, 0, 0, &mut second, 0, 0);
+    if 128 < totals.errors {
+        return reply_long(doc, out);
+    }
+    if 128 < totals.warnings {
+        return reply_long(doc, out);
+    }
+    put_kept(&first, &second, totals, out)
 }
 
 // All findings, where the words suffice: a long document gets more room, so that few have to be walked twice.
