@@ -6,7 +6,7 @@ use Rattle.reading.specs.Limits.{maxDepth}
 use Rattle.reading.specs.Transition.{readTopExpr}
 use Rattle.reading.proofs.Rules.{no}
 use Rattle.typing.specs.Causes.{Answer, is, fails, number, causeWord}
-use Rattle.typing.specs.Table.{envAt}
+use Rattle.typing.specs.Blocks.{envAt}
 use Rattle.typing.specs.Typing.{typeExpr}
 use Rattle.typing.specs.Typed.{Types}
 use Rattle.typing.specs.Means.{causeOf, bad, typedOf, outcome}

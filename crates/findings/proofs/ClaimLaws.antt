@@ -16,7 +16,8 @@ use Rattle.reading.proofs.Walks.{name-text}
 use Rattle.typing.specs.Causes.{causeWord}
 use Rattle.typing.specs.Names.{eqName}
 use Rattle.typing.specs.Env.{Env, given, Agree}
-use Rattle.typing.specs.Table.{findFirst, found, envAt}
+use Rattle.typing.specs.Table.{findFirst, found}
+use Rattle.typing.specs.Blocks.{envAt}
 use Rattle.typing.specs.Means.{unfitOf}
 use Rattle.typing.specs.Formulas.{typeFormula}
 use Rattle.typing.specs.Shape.{Bounds}

@@ -12,7 +12,8 @@ use Rattle.reading.specs.declared.item.Answer.{Answer}
 use Rattle.reading.specs.declared.item.Answer.the-variants.{Refused}
 use Rattle.reading.proofs.TransitionLaws.{output-expr-laws}
 use Rattle.typing.specs.Env.{Env, Agree}
-use Rattle.typing.specs.Table.{envAt, Past}
+use Rattle.typing.specs.Table.{Past}
+use Rattle.typing.specs.Blocks.{envAt}
 use Rattle.typing.proofs.EnvLaws.{after-is}
 use Rattle.typing.specs.First.{GroupsAt}
 use Rattle.findings.specs.Lists.{Placed}

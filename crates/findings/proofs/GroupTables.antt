@@ -5,6 +5,7 @@ use mathlib.Core.List.{List, [], _∷_, _++_, append-assoc}
 use native.Mathlib.Omega.{arith}
 use native.Mathlib.Nat.{zero-add, sub-zero}
 use lib.ListN.{length, getD, set, take, drop, take-append-drop, length-set, length-take, length-drop, drop-of-length-le}
+use Rattle.typing.proofs.BlockLaws.{getD-sets-low}
 use lib.Seq.{sets, length-sets, sets-eq, length-take-le, getD-set-same, getD-set-other, take-set-le, drop-set-lt, drop-set-add, take-take, drop-drop, take-append-seam, drop-append-le, drop-at}
 use Rattle.typing.specs.Table.{pairsAt, Filled}
 use Rattle.findings.specs.Scene.{groupsIn, withTable, withGroups}
@@ -39,10 +40,6 @@ pub groups-as : (places : List ℕ) (from : ℕ) {words words′ : ℕ} {r : Lis
 groups-as places from e g = g ∙ ap (groupsIn places from) e
 
 -- words that are set elsewhere
-getD-sets-low : (vs l : List ℕ) (j i : ℕ) → i < j → getD (sets l j vs) i 0 ≡ getD l i 0
-getD-sets-low [] l j i h = refl
-getD-sets-low (v ∷ vs) l j i h = getD-sets-low vs (set l j v) (suc j) i (omega arith) ∙ getD-set-other l j i v 0 (λ e. absurd (omega arith))
-
 take-sets-le : (vs : List ℕ) (n : ℕ) (l : List ℕ) (j : ℕ) → n ≤ j → take n (sets l j vs) ≡ take n l
 take-sets-le [] n l j h = refl
 take-sets-le (v ∷ vs) n l j h = take-sets-le vs n (set l j v) (suc j) (omega arith) ∙ take-set-le n l j v h

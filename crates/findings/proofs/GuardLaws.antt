@@ -14,7 +14,7 @@ use Rattle.typing.specs.Rules.{isBool}
 use Rattle.typing.specs.Env.{Env, Agree}
 use Rattle.typing.specs.Typing.{typeExpr}
 use Rattle.typing.specs.Means.{tyOf, causeOf}
-use Rattle.typing.specs.Table.{envAt}
+use Rattle.typing.specs.Blocks.{envAt}
 use Rattle.typing.specs.Typed.{Types}
 use Rattle.typing.specs.declared.ty.Ty.{Ty}
 use Rattle.typing.specs.declared.cause.Cause.{Cause}

@@ -1,20 +1,19 @@
 -- A whole module: its tables, and its parts one after another.
-use Prim.Native.Nat.{ℕ, suc, _-_, _*_, _/_, _≤_}
-use mathlib.Core.Path.{_≡_, refl, sym, ap, subst, _∙_}
+use Prim.Native.Nat.{ℕ, suc, _-_, _≤_}
+use mathlib.Core.Path.{_≡_, ap, subst, _∙_}
 use mathlib.Core.List.{List, [], _∷_}
 use mathlib.Core.Bool.{Bool, true, false, not}
 use native.Mathlib.Omega.{arith}
 use lib.ListN.{length, getD, take}
+use lib.Seq.{length-take-le}
 use lib.Dec.{ltb}
 use borrow.Author.Tests.{lt-ltb}
-use Rattle.reading.specs.Read.{Read, ok, refused}
-use Rattle.reading.specs.Limits.{maxList}
-use Rattle.reading.specs.Item.{readCount}
 use Rattle.typing.specs.Env.{forModule}
-use Rattle.typing.specs.Table.{pairsOf, pairsAt, Filled}
+use Rattle.typing.specs.Table.{pairsAt}
+use Rattle.typing.specs.Blocks.{Keeps}
 use Rattle.typing.specs.declared.table.Found.{Found}
 use Rattle.typing.proofs.EnvLaws.{tables-agree}
-use Rattle.typing.proofs.TableLaws.{pairs-length}
+use Rattle.typing.proofs.BlockLaws.{keeps-taken}
 use Rattle.findings.specs.Mentions.{states}
 use Rattle.findings.specs.Errors.{isEmpty, opening, claims, closing, errors}
 use Rattle.findings.specs.Warnings.{warnings}
@@ -24,39 +23,19 @@ use Rattle.findings.specs.PairPromises.{Printed, pairNotes, NotesPairs}
 use Rattle.findings.specs.WarningPromises.{NotesUnreachable, NotesDead, NotesUnused, NotesImpossible}
 use Rattle.findings.specs.Walks.{WalksNamed, WalksModule}
 use Rattle.findings.specs.ModulePromises.{Names, NotesFore, NotesMost, NotesClosing, NotesErrors, NotesDoubts, NotesWarnings}
-use Rattle.findings.specs.declared.module.Named.{Named}
 use Rattle.findings.specs.declared.rows.Listed.{Listed}
 use Rattle.findings.proofs.NoteLaws.{note-then, note-as}
 use Rattle.findings.proofs.RowLaws.{moved}
-use Rattle.findings.proofs.ClaimTables.{pairs-few, filled-front}
 
--- a table of pairs has as many words as twice its half
-pairs-even : (s : List ℕ) (at : ℕ) → 2 * (length (pairsAt s at) / 2) ≡ length (pairsAt s at)
-unfolding pairsAt pairsOf
-pairs-even s at = go (readCount maxList s at)
-  where
-    go : (m : Read ℕ) → 2 * (length (pairsOf s m) / 2) ≡ length (pairsOf s m)
-    go (ok c k) = omega (arith, pairs-length c s k)
-    go (refused f p) = refl
-
-pub names-set : (s places o t p e c : List ℕ) {v p₇ w p₃ all p₉ p₁₀ : ℕ} → 510 ≤ length o → 510 ≤ length p → p₇ ≡ getD places 7 0 → Filled o (pairsAt s p₇) v t → p₃ ≡ getD places 3 0 → Filled p (pairsAt s p₃) w e → p₉ ≡ getD places 9 0 → p₁₀ ≡ getD places 10 0 → ClaimsSet s p₉ p₁₀ all c → Names s places (record { vars = v / 2; enums = w; claims = all }) t e c
+pub names-set : (s places t e c : List ℕ) {p₇ p₃ all p₉ p₁₀ : ℕ} → 829 ≤ length t → length e ≡ 829 → p₇ ≡ getD places 7 0 → Keeps s (pairsAt s p₇) t 0 → p₃ ≡ getD places 3 0 → Keeps s (pairsAt s p₃) e 0 → p₉ ≡ getD places 9 0 → p₁₀ ≡ getD places 10 0 → ClaimsSet s p₉ p₁₀ all c → Names s places all t e c
 unfolding claims
-names-set s places o t p e c {v} {p₇} {w} {p₃} {all} h k e₇ f e₃ g e₉ e₁₀ d =
-    let x = pairs-few s p₇ in
-    let y = pairs-few s p₃ in
-    let i = f .many in
-    let j = g .many in
-    let even : 2 * (v / 2) ≡ v = ap (λ (n : ℕ). 2 * (n / 2)) i ∙ pairs-even s p₇ ∙ sym i in
-    let a : take (2 * (v / 2)) t ≡ pairsAt s p₇ = ap (λ (n : ℕ). take n t) even ∙ filled-front o (pairsAt s p₇) (omega arith) f in
-    let b : take w e ≡ pairsAt s p₃ = filled-front p (pairsAt s p₃) (omega arith) g in
-    record {
-      few-enums = omega arith;
-      few-claims = d .most;
-      of = λ m B u. record {
-        agree = rw (a, b, e₇, e₃) (tables-agree s B _ _ m _ _ (u .vars-are .is) (u .enums-are .is));
-        claims-are = d .of (m .properties) (m .assumptions) B (moved e₉ (u .properties-are)) (moved e₁₀ (u .assumptions-are));
-      };
-    }
+names-set s places t e c h k e₇ f e₃ g e₉ e₁₀ d = record {
+  few-claims = d .most;
+  of = λ m B u. record {
+    agree = tables-agree s B (take 829 t) e _ _ m _ _ (length-take-le 829 t h) k (keeps-taken s _ t 0 829 (omega arith) f) g (moved e₇ (u .vars-are) .is) (moved e₃ (u .enums-are) .is);
+    claims-are = d .of (m .properties) (m .assumptions) B (moved e₉ (u .properties-are)) (moved e₁₀ (u .assumptions-are));
+  };
+}
 
 pub closing-noted : (s : List ℕ) (owner : ℕ) {o o₁ o₂ o′ : List ℕ} {skip n a b r : ℕ} {places : List ℕ} {found : Found} {names enums properties p₆ : List ℕ} {p₂ : ℕ} → p₂ ≡ getD places 2 0 → p₆ ≡ outputsIn places → NotesOnError s owner o skip n a o₁ p₂ found p₆ names enums → NotesRepeats s owner o₁ skip a b o₂ properties → NotesFormulas s owner o₂ skip b r o′ properties names enums → NotesClosing s owner o skip n r o′ places found names enums properties
 unfolding closing
@@ -71,23 +50,19 @@ unfolding isEmpty
 moves-is [] e q = q ∙ ap (ltb 0) e
 moves-is (x ∷ xs) e q = q ∙ ap (ltb 0) e ∙ lt-ltb 0 (suc (length xs)) (omega arith)
 
-pub fore-noted : (s : List ℕ) (owner : ℕ) {o o₁ o′ : List ℕ} {skip n a r : ℕ} {places rows prints : List ℕ} {found : Found} {count : ℕ} {moves : Bool} (table : List ℕ) {k : ℕ} (vars : ℕ) {enums : List ℕ} → k ≡ 2 * vars → moves ≡ ltb 0 count → NotesOpening s owner o skip n a o₁ places found moves (take (k - 0) table) enums → NotesMoves s owner o₁ skip a r o′ places rows prints count found table (2 * vars) enums → NotesFore s owner o skip n r o′ places found rows prints count (take (2 * vars) table) enums
-fore-noted s owner table {k} vars d v x y = record {
+pub fore-noted : (s : List ℕ) (owner : ℕ) {o o₁ o′ : List ℕ} {skip n a r : ℕ} {places rows prints : List ℕ} {found : Found} {count : ℕ} {moves : Bool} (table : List ℕ) {enums : List ℕ} → moves ≡ ltb 0 count → NotesOpening s owner o skip n a o₁ places found moves (take 829 table) enums → NotesMoves s owner o₁ skip a r o′ places rows prints count found table 829 enums → NotesFore s owner o skip n r o′ places found rows prints count (take 829 table) enums
+fore-noted s owner table v x y = record {
   of = λ m g rs ps e h f.
-      let l : k - 0 ≡ 2 * vars = omega arith in
-      note-then owner (note-as owner _ (ap (opening m) (moves-is (m .transitions) e v)) (x .of m g h (rw l f))) (y .of m g rs ps e h f);
+      note-then owner (note-as owner _ (ap (opening m) (moves-is (m .transitions) e v)) (x .of m g h f)) (y .of m g rs ps e h f);
 }
-
-pub aft-noted : (s : List ℕ) (owner : ℕ) {o o′ : List ℕ} {skip n r : ℕ} {places : List ℕ} {found : Found} (table : List ℕ) {k : ℕ} (vars : ℕ) {enums properties : List ℕ} → k ≡ 2 * vars → NotesClosing s owner o skip n r o′ places found (take (k - 0) table) enums properties → NotesClosing s owner o skip n r o′ places found (take (2 * vars) table) enums properties
-aft-noted s owner table {k} vars d x = let l : k - 0 ≡ 2 * vars = omega arith in rw l at x
 
 pub most-noted : (s : List ℕ) (owner : ℕ) {o o₁ o′ : List ℕ} {skip n a r : ℕ} {places rows prints : List ℕ} {found : Found} {count : ℕ} {names enums : List ℕ} → NotesFore s owner o skip n a o₁ places found rows prints count names enums → NotesPairs s owner o₁ skip a r o′ rows prints count false → NotesMost s owner o skip n r o′ places found rows prints count names enums
 unfolding pairNotes
 most-noted s owner x z = record { of = λ m g rs ps e h f. note-then owner (x .of m g rs ps e h f) (z .of (m .transitions) rs ps e) }
 
-pub errors-noted : (s : List ℕ) (owner : ℕ) {o o₁ o′ : List ℕ} {skip n a r : ℕ} {places rows prints : List ℕ} {found : Found} {count : ℕ} (table table′ : List ℕ) (vars : ℕ) {enums properties : List ℕ} → NotesMost s owner o skip n a o₁ places found rows prints count (take (2 * vars) table) enums → take (2 * vars) table′ ≡ take (2 * vars) table → NotesClosing s owner o₁ skip a r o′ places found (take (2 * vars) table′) enums properties → NotesErrors s owner o skip n r o′ places found rows prints count (take (2 * vars) table) enums properties
+pub errors-noted : (s : List ℕ) (owner : ℕ) {o o₁ o′ : List ℕ} {skip n a r : ℕ} {places rows prints : List ℕ} {found : Found} {count : ℕ} (table table′ : List ℕ) {enums properties : List ℕ} → NotesMost s owner o skip n a o₁ places found rows prints count (take 829 table) enums → take 829 table′ ≡ take 829 table → NotesClosing s owner o₁ skip a r o′ places found (take 829 table′) enums properties → NotesErrors s owner o skip n r o′ places found rows prints count (take 829 table) enums properties
 unfolding errors
-errors-noted s owner table table′ vars x t w = record { of = λ m g rs ps e h f c. note-then owner (x .of m g rs ps e h f) (w .of m g h (rw t f) c) }
+errors-noted s owner table table′ x t w = record { of = λ m g rs ps e h f c. note-then owner (x .of m g rs ps e h f) (w .of m g h (rw t f) c) }
 
 pub doubts-noted : (s : List ℕ) (owner : ℕ) {o o₁ o₂ o′ : List ℕ} {skip n a b r : ℕ} {places rows prints : List ℕ} {found : Found} {count p₄ : ℕ} {p₅ : List ℕ} → p₄ ≡ getD places 4 0 → NotesUnreachable s owner o skip n a o₁ rows count prints found p₄ → p₅ ≡ eventsIn places → NotesDead s owner o₁ skip a b o₂ rows count p₅ → NotesUnused s owner o₂ skip b r o′ rows count places → NotesDoubts s owner o skip n r o′ places found rows prints count
 doubts-noted s owner i x j y z = record {
@@ -108,23 +83,19 @@ warnings-noted s owner x u v = record {
 pub states-at : (s places : List ℕ) {p : ℕ} {found : Found} → p ≡ getD places 3 0 → FirstStates s p found → FirstStates s (getD places 3 0) found
 states-at s places {found} e x = subst (λ (k : ℕ). FirstStates s k found) e x
 
--- the tables of names lie within their words
-pub enums-few : (s places table enums properties : List ℕ) {t : Named} → Names s places t table enums properties → t .enums ≤ 510
-enums-few s places table enums properties w = w .few-enums
-
-pub claims-few : (s places table enums properties : List ℕ) {t : Named} → Names s places t table enums properties → t .claims ≤ 1020
+-- the table of properties and assumptions lies within its words
+pub claims-few : (s places table enums properties : List ℕ) {t : ℕ} → Names s places t table enums properties → t ≤ 1020
 claims-few s places table enums properties w = w .few-claims
 
 -- the tables and then both walks
-pub named-walked : (s : List ℕ) (owner : ℕ) {o o′ p p′ : List ℕ} {skip n r leave k q : ℕ} {places rows prints : List ℕ} (table enums properties : List ℕ) {found : Found} {count : ℕ} (v a b : ℕ) → FirstStates s (getD places 3 0) found → Names s places (record { vars = v; enums = a; claims = b }) table enums properties → NotesErrors s owner o skip n r o′ places found rows prints count (take (2 * v) table) (take (a - 0) enums) (take (b - 0) properties) → NotesWarnings s owner p leave k q p′ places found rows prints count → WalksNamed s o skip n r o′ p leave k q p′ owner places rows prints count
+pub named-walked : (s : List ℕ) (owner : ℕ) {o o′ p p′ : List ℕ} {skip n r leave k q : ℕ} {places rows prints : List ℕ} (table enums properties : List ℕ) {found : Found} {count : ℕ} (b : ℕ) → FirstStates s (getD places 3 0) found → Names s places b table enums properties → NotesErrors s owner o skip n r o′ places found rows prints count (take 829 table) enums (take (b - 0) properties) → NotesWarnings s owner p leave k q p′ places found rows prints count → WalksNamed s o skip n r o′ p leave k q p′ owner places rows prints count
 unfolding states
-named-walked s owner table enums properties {found} v a b z w u y = record {
+named-walked s owner table enums properties {found} b z w u y = record {
   of = λ m B g rs ps e.
       let c = z .of (m .enums) (g .enums-are) in
       let d = w .of m B g in
-      let i : a - 0 ≡ a = omega arith in
       let j : b - 0 ≡ b = omega arith in
-      (u .of m g rs ps e c (rw i (d .agree)) (rw j (d .claims-are)), y .of m g rs ps e c);
+      (u .of m g rs ps e c (d .agree) (rw j (d .claims-are)), y .of m g rs ps e c);
 }
 
 pub module-walked : (s : List ℕ) (owner at : ℕ) {o o′ p p′ : List ℕ} {skip n r leave k q : ℕ} {l : Listed} {places rows prints : List ℕ} → Opens s at l places rows → Printed s rows (l .count) prints → WalksNamed s o skip n r o′ p leave k q p′ owner places rows prints (l .count) → WalksModule s o skip n r o′ p leave k q p′ owner at (l .end)

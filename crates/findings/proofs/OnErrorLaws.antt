@@ -19,7 +19,8 @@ use Rattle.reading.proofs.TransitionLaws.{output-expr-laws}
 use Rattle.reading.proofs.Views.{on-error-at}
 use Rattle.reading.proofs.Walks.{name-text}
 use Rattle.typing.specs.Env.{Agree, forModule}
-use Rattle.typing.specs.Table.{afterItem, afterHead, Past, envAt}
+use Rattle.typing.specs.Table.{afterItem, afterHead, Past}
+use Rattle.typing.specs.Blocks.{envAt}
 use Rattle.typing.specs.declared.table.Found.{Found}
 use Rattle.typing.proofs.EnvLaws.{after-is, fields-head}
 use Rattle.typing.specs.First.{GroupsAt}

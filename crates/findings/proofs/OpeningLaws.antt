@@ -23,7 +23,8 @@ use Rattle.reading.proofs.Views.{var-decl-at}
 use Rattle.reading.proofs.Walks.{name-text, version-text}
 use Rattle.typing.specs.Env.{Env, Agree, forModule}
 use Rattle.typing.specs.Tells.{Ends}
-use Rattle.typing.specs.Table.{afterItem, afterHead, Past, envAt}
+use Rattle.typing.specs.Table.{afterItem, afterHead, Past}
+use Rattle.typing.specs.Blocks.{envAt}
 use Rattle.typing.specs.Version.{isValidVersionFormat}
 use Rattle.typing.specs.declared.table.Found.{Found}
 use Rattle.typing.proofs.EnvLaws.{after-is, fields-head}

@@ -4,7 +4,7 @@ use mathlib.Core.Path.{_≡_, ap, _∙_}
 use mathlib.Core.List.{List}
 use Rattle.typing.specs.Causes.{blameWord}
 use Rattle.typing.specs.Means.{blameOf}
-use Rattle.typing.specs.Table.{envAt}
+use Rattle.typing.specs.Blocks.{envAt}
 use Rattle.typing.specs.Blames.{JudgesOutput}
 use Rattle.typing.specs.Outputs.{validateOutputExpr}
 use Rattle.typing.specs.declared.cause.Blame.{Blame}

@@ -20,11 +20,11 @@ use Rattle.reading.proofs.TransitionLaws.{assignment-laws}
 use Rattle.reading.proofs.Views.{assignment-at}
 use Rattle.reading.proofs.Walks.{name-text}
 use Rattle.typing.specs.Env.{Env, given, Agree}
-use Rattle.typing.specs.Table.{afterItem, afterHead, findFirst, findIn, found, envAt, Past}
+use Rattle.typing.specs.Table.{afterItem, afterHead, findFirst, found, Past}
+use Rattle.typing.specs.Blocks.{findIn, envAt}
 use Rattle.typing.specs.declared.table.Found.{Found}
 use Rattle.typing.specs.declared.table.Found.the-variants.{At, Nothing}
 use Rattle.typing.proofs.EnvLaws.{after-is, fields-head}
-use Rattle.typing.proofs.TableLaws.{find-all}
 use Rattle.findings.specs.Lists.{Placed}
 use Rattle.findings.specs.Finding.{Note, note}
 use Rattle.findings.specs.Errors.{setNotes}
@@ -65,10 +65,6 @@ module _ (s : List ℕ) (i j : ℕ) (names enums : List ℕ) (owner : ℕ) (o : 
         let x : w ≡ a .var = u ∙ ap (textAt s) (h ∙ fields-head 2 s at tt (v .var) (v .opens)) ∙ name-text s (v .var) (a .var) (v .value) (v .var-is) in
         p .of at a env (findIn s w vars) h g k e (z .of (a .var) ∙ ap (λ (y : Name). given (findIn s y vars)) (sym x));
   }
-
--- what stands under a name in all pairs
-pub found-all : (s : List ℕ) (w : Name) (vars : List ℕ) {f : Found} → f ≡ found (findFirst s w vars (length vars / 2)) → f ≡ found (findIn s w vars)
-found-all s w vars e = e ∙ ap found (find-all s w vars)
 
 -- what is known where the assignments are judged
 pub record Setting (s vars names enums : List ℕ) : Type 0 where

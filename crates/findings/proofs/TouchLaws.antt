@@ -155,17 +155,17 @@ module _ (s names : List ℕ) (n : Name) (m : List ℕ) where
 
   -- a variable of another lane
   apart : (j : ℕ) → (laneOf s names j ≡ print 0 n % 1024 → ⊥) → Turned m j
-  apart j d = ap (λ (b : Bool). cond b 1 (getD m j 0)) (sym (lane-apart n (varAt s names j) (λ q. d (sym q))))
+  apart j d = ap (λ (b : Bool). cond b 1 (getD m j 0)) (sym (lane-apart 1024 n (varAt s names j) (λ q. d (sym q))))
 
   module _ {heads links : List ℕ} (w : Lanes s names (length names / 2) heads links) where
     pub touching-start : {h : ℕ} → h ≡ print 0 n % 1024 → Touching (getD heads h 0) m
     touching-start {h} e =
         let l : h < 1024 = omega arith in
         record {
-          low = w .head-low h l;
-          on = λ x. w .head-on h l x ∙ e;
+          low = w .woven .head-low h l;
+          on = λ x. w .woven .head-on h l x ∙ e;
           size = refl;
-          done = λ j a b c. apart j (λ q. w .head-last h j l b a (q ∙ sym e));
+          done = λ j a b c. apart j (λ q. w .woven .head-last h j l b a (q ∙ sym e));
           kept = λ j a. refl;
         }
 
@@ -174,16 +174,16 @@ module _ (s names : List ℕ) (n : Name) (m : List ℕ) where
       before = let z = g .low in omega arith
 
       pub touching-less : getD links (p - 1) 0 < p
-      touching-less = let z = w .link-low (p - 1) before in omega arith
+      touching-less = let z = w .woven .link-low (p - 1) before in omega arith
 
       -- between two variables of the lane there is none of the name
       between : (j : ℕ) → getD links (p - 1) 0 ≤ j → j < p - 1 → Turned m′ j
-      between j a l = g .kept j (omega arith) ∙ apart j (λ q. w .link-last (p - 1) j before l a (q ∙ sym (g .on h)))
+      between j a l = g .kept j (omega arith) ∙ apart j (λ q. w .woven .link-last (p - 1) j before l a (q ∙ sym (g .on h)))
 
       pub touching-more : {m″ : List ℕ} → VarTouched s (getD names (2 * (p - 1)) 0) n (p - 1) m′ m″ → Touching (getD links (p - 1) 0) m″
       touching-more {m″} v = record {
         low = let y = g .low in let z = touching-less in omega arith;
-        on = λ x. w .link-on (p - 1) before x ∙ g .on h;
+        on = λ x. w .woven .link-on (p - 1) before x ∙ g .on h;
         size = v .size ∙ g .size;
         done = λ j a b c.
             by (ltb j p)

@@ -1,33 +1,37 @@
 -- What is noted of each transition by itself, for whatever reads there.
-use Prim.Native.Nat.{ℕ, _+_, _-_, _*_, _<_, _≤_}
+use Prim.Native.Nat.{ℕ, _+_, _-_, _/_, _<_, _≤_}
 use mathlib.Core.Path.{_≡_, refl, sym, ap, subst, _∙_}
-use mathlib.Core.List.{List, _++_}
+use mathlib.Core.List.{List, [], _∷_}
 use mathlib.Core.Option.{Option, none, some}
 use native.Mathlib.Omega.{arith}
-use lib.ListN.{length, getD, take, drop, length-append}
-use lib.Seq.{sets, sets-eq, take-at, length-take-le}
+use lib.ListN.{length, getD, take}
+use lib.Seq.{sets, length-sets, take-take, length-take-le}
 use Rattle.reading.specs.Read.{Reader, ok}
 use Rattle.reading.specs.Module.{Module}
+use Rattle.reading.specs.Transition.{Transition}
 use Rattle.reading.specs.Skip.{textAt}
 use Rattle.reading.proofs.Walks.{name-text}
 use Rattle.typing.specs.Causes.{firstOf, blameWord}
 use Rattle.typing.specs.Env.{Binding, given, forModule, withBindings, Agree}
-use Rattle.typing.specs.Table.{findIn, typeFound, envAt}
+use Rattle.typing.specs.Table.{typeFound}
+use Rattle.typing.specs.Blocks.{findIn, Weaves, envAt}
 use Rattle.typing.specs.Patterns.{validateEventPattern}
 use Rattle.typing.specs.Means.{blameOf}
-use Rattle.typing.specs.Blames.{Bound, JudgesPattern}
+use Rattle.typing.specs.Blames.{Bound, Binds, JudgesPattern}
 use Rattle.typing.specs.declared.cause.Bindings.{Bindings}
 use Rattle.typing.specs.declared.table.Found.{Found}
-use Rattle.typing.proofs.EnvLaws.{bindings-agree}
+use Rattle.typing.proofs.BlockLaws.{block-filled, keeps-taken}
+use Rattle.typing.proofs.EnvLaws.{bound-length, bindings-agree, unbound-agree}
+use Rattle.findings.specs.declared.transition.Judged.{Judged}
 use Rattle.findings.specs.Lists.{placed, each}
 use Rattle.findings.specs.Finding.{note, blamed}
 use Rattle.findings.specs.Mentions.{states}
 use Rattle.findings.specs.Errors.{bodyNotes, judgedNotes, own}
 use Rattle.findings.specs.Noting.{Noted, numbered}
-use Rattle.findings.specs.Scene.{Reads, field, Rows, eventsIn, outputsIn, Scene}
+use Rattle.findings.specs.Scene.{Reads, field, RowAt, Rows, eventsIn, outputsIn, Scene}
 use Rattle.findings.specs.Prints.{printAt, Prints}
 use Rattle.findings.specs.Variants.{Variants, StatesFilled}
-use Rattle.findings.specs.Promises.{Known, NotesVariant, NotesGuard, NotesSets, NotesEmits, NotesBody, NotesHeads, NotesJudged, NotesTransition, NotesTransitions, NotesMoves}
+use Rattle.findings.specs.Promises.{Known, JudgesOwn, NotesVariant, NotesGuard, NotesSets, NotesEmits, NotesBody, NotesHeads, NotesJudged, NotesTransition, NotesTransitions, NotesMoves}
 use Rattle.findings.proofs.NoteLaws.{note-then, blamed-numbered}
 use Rattle.findings.proofs.EachLaws.{Left, left-all, eachFrom, get-some, each-turn, each-done}
 
@@ -59,20 +63,50 @@ module _ (s : List ℕ) (rows prints : List ℕ) (i : ℕ) (variants : List ℕ)
 pub judged-at : {s : List ℕ} {at at′ : ℕ} {events events′ table : List ℕ} {k : ℕ} {r : Bindings} {table′ : List ℕ} → at ≡ at′ → events ≡ events′ → JudgesPattern s at events table k r table′ → JudgesPattern s at′ events′ table k r table′
 judged-at {s} {at′} {events} {table} {k} {r} {table′} h g p = subst (λ (e : List ℕ). JudgesPattern s at′ e table k r table′) g (subst (λ (a : ℕ). JudgesPattern s a events table k r table′) h p)
 
--- the variables are a part of a table that starts where the table does
-module _ (s places rows prints : List ℕ) (i : ℕ) (variants : List ℕ) (cause : ℕ) (names : List ℕ) (k : ℕ) (enums : List ℕ) (owner : ℕ) (o : List ℕ) (skip n : ℕ) where
-  pub judged-noted : {a r : ℕ} {v o₁ o₂ : List ℕ} → NotesHeads s owner o skip n a o₁ rows prints i variants cause → v ≡ outputsIn places → NotesBody s owner o₁ skip a r o₂ rows i v (take (k - 0) names) names enums → NotesJudged s owner o skip n r o₂ places rows prints i variants cause (take k names) names enums
-  judged-noted p h q =
-      let z : k - 0 ≡ k = omega arith in
-      let b = rw z at q in
-      record { of = λ m t env c w d v y u. note-then owner (p .of (states m) t w d v) (b .of t (m .outputs) env w (rw h (c .output-groups)) y u) }
+-- the variables are the first block of a table
+module _ (s places rows prints : List ℕ) (i : ℕ) (variants : List ℕ) (cause : ℕ) (names enums : List ℕ) (owner : ℕ) (o : List ℕ) (skip n : ℕ) where
+  pub judged-noted : {a r : ℕ} {v o₁ o₂ : List ℕ} → NotesHeads s owner o skip n a o₁ rows prints i variants cause → v ≡ outputsIn places → NotesBody s owner o₁ skip a r o₂ rows i v (take 829 names) names enums → NotesJudged s owner o skip n r o₂ places rows prints i variants cause (take 829 names) names enums
+  judged-noted p h q = record { of = λ m t env c w d v y u. note-then owner (p .of (states m) t w d v) (q .of t (m .outputs) env w (rw h (c .output-groups)) y u) }
 
--- what the bindings leave of a table, and what it has after them
-bound-names : (table pairs : List ℕ) (k : ℕ) → k + length pairs ≤ length table → take (k + length pairs) (sets table k pairs) ≡ take k table ++ pairs
-bound-names table pairs k h =
-    ap (take (k + length pairs)) (sets-eq pairs table k h)
-    ∙ take-at (take k table ++ pairs) (drop (k + length pairs) table) (k + length pairs)
-    (length-append (take k table) pairs ∙ ap (λ (l : ℕ). l + length pairs) (length-take-le k table (omega arith)))
+module-bindings : (m : Module) → forModule m .bindings ≡ (λ n. none)
+unfolding forModule
+module-bindings m = refl
+
+module-unbound : (s vars enums T : List ℕ) (bs : List Binding) (m : Module) → length T ≡ 0 → Bound s T bs → Agree (envAt s vars enums) (forModule m) → Agree (envAt s vars enums) (withBindings bs (forModule m))
+module-unbound s vars enums [] bs m l b y = unbound-agree s vars enums bs (forModule m) b y (module-bindings m)
+module-unbound s vars enums (x ∷ T) bs m l b y = absurd (omega arith)
+
+-- the first block stays while the second is woven
+pub front-kept : (s T₁ T₂ : List ℕ) {k : ℕ} → Weaves s T₁ 829 k T₂ → take 829 T₂ ≡ take 829 T₁
+front-kept s T₁ T₂ w = sym (take-take 829 1339 T₂ (omega arith)) ∙ ap (take 829) (w .kept) ∙ take-take 829 1339 T₁ (omega arith)
+
+-- the names with those that a pattern binds: in a block of their own, if there are any
+module _ (s places rows table : List ℕ) (i : ℕ) (room : 1658 ≤ length table) where
+  module _ {p : Bindings} {table₁ : List ℕ} (j : JudgesPattern s (field rows i 2) (eventsIn places) table 829 p table₁) where
+    binds-here : (m : Module) (t : Transition) → Scene s places m → RowAt s rows i t → Binds s table 829 (validateEventPattern (m .events) (t .pattern)) p table₁
+    binds-here m t c w = j .of (m .events) (t .pattern) (field rows i 3) (c .event-groups) (w .pattern-is)
+
+    pub judged-unbound : take 829 table₁ ≡ take 829 table → p .words ≡ 0 → JudgesOwn s places rows i table (record { blame = p .blame; names = 829 }) table₁
+    judged-unbound k z = record {
+      fault = λ m t c w. binds-here m t c w .fault;
+      bound = λ m t enums c w y.
+          let b = binds-here m t c w in
+          rw k (module-unbound s (take 829 table) enums (b .pairs) _ m (sym (b .many) ∙ z) (b .are) y);
+    }
+
+    pub judged-bound : {table₂ : List ℕ} → p .words ≤ 510 → take 829 table₁ ≡ take 829 table → Weaves s table₁ 829 (p .words / 2) table₂ → JudgesOwn s places rows i table (record { blame = p .blame; names = 1658 }) table₂
+    judged-bound {table₂} few k w = record {
+      fault = λ m t c r. binds-here m t c r .fault;
+      bound = λ m t enums c r y.
+          let b = binds-here m t c r in
+          let l = bound-length (b .are) in
+          let v = b .many in
+          let z : length table₁ ≡ length table = ap length (b .words) ∙ length-sets table 829 (b .pairs) in
+          let q = w .size in
+          bindings-agree s (take 829 table) enums (take 1658 table₂) (b .pairs) _ (forModule m)
+          (length-take-le 829 table (omega arith)) (length-take-le 1658 table₂ (omega arith)) (take-take 829 1658 table₂ (omega arith) ∙ front-kept s table₁ table₂ w ∙ k)
+          (keeps-taken s (b .pairs) table₂ 829 1658 (omega arith) (block-filled s table (b .pairs) 829 (p .words / 2) (b .words) (omega arith) (omega arith) (omega arith) w)) (b .are) y (module-bindings m);
+    }
 
 given-type : (s : List ℕ) (x : Option ℕ) → given (typeFound s x) ≡ given x
 unfolding typeFound given
@@ -84,38 +118,30 @@ known-vars : (s vars enums : List ℕ) (m : Module) (bs : List Binding) → Agre
 unfolding withBindings forModule envAt firstOf
 known-vars s vars enums m bs y = record { of = λ w. ap given (sym (y .names w)) ∙ given-type s (findIn s w vars) }
 
-module-bound : (s vars enums T : List ℕ) (k : ℕ) (bs : List Binding) (m : Module) → length vars ≡ 2 * k → Bound s T bs → Agree (envAt s vars enums) (forModule m) → Agree (envAt s (vars ++ T) enums) (withBindings bs (forModule m))
-unfolding forModule
-module-bound s vars enums T k bs m l b y = bindings-agree s vars enums T k bs (forModule m) l b y refl
-
-module _ (s places rows prints : List ℕ) (i : ℕ) (variants table : List ℕ) (vars : ℕ) (enums : List ℕ) (owner : ℕ) (o : List ℕ) (skip n : ℕ) where
-  pub transition-noted : {p : Bindings} {cause r : ℕ} {table′ o′ : List ℕ} → JudgesPattern s (field rows i 2) (eventsIn places) table (2 * vars) p table′ → 2 * vars + p .words ≤ length table → cause ≡ blameWord (blameOf s (p .blame)) → NotesJudged s owner o skip n r o′ places rows prints i variants cause (take (2 * vars) (take (2 * vars + p .words - 0) table′)) (take (2 * vars + p .words - 0) table′) enums → NotesTransition s owner o skip n r o′ places rows prints i variants table (2 * vars) enums
+module _ (s places rows prints : List ℕ) (i : ℕ) (variants table enums : List ℕ) (owner : ℕ) (o : List ℕ) (skip n : ℕ) where
+  pub transition-noted : {p : Judged} {cause r : ℕ} {table′ o′ : List ℕ} → JudgesOwn s places rows i table p table′ → take 829 table′ ≡ take 829 table → 829 ≤ p .names → cause ≡ blameWord (blameOf s (p .blame)) → NotesJudged s owner o skip n r o′ places rows prints i variants cause (take 829 (take (p .names - 0) table′)) (take (p .names - 0) table′) enums → NotesTransition s owner o skip n r o′ places rows prints i variants table 829 enums
   unfolding own judgedNotes
-  transition-noted {p} {cause} {r} {table′} {o′} j few e f = record {
+  transition-noted {p} {cause} {r} {table′} {o′} j kept few e f = record {
     of = λ m t c w h v y.
         let q = validateEventPattern (m .events) (t .pattern) in
-        let b = j .of (m .events) (t .pattern) (field rows i 3) (c .event-groups) (w .pattern-is) in
-        let l : 2 * vars + length (b .pairs) ≤ length table = omega (arith, b .many) in
-        let z : 2 * vars + p .words - 0 ≡ 2 * vars + length (b .pairs) = omega (arith, b .many) in
-        let d : length (take (2 * vars) table) ≡ 2 * vars = length-take-le (2 * vars) table (omega arith) in
-        let x : take (2 * vars + p .words - 0) table′ ≡ take (2 * vars) table ++ b .pairs = ap (λ (a : ℕ). take a table′) z ∙ ap (take (2 * vars + length (b .pairs))) (b .words) ∙ bound-names table (b .pairs) (2 * vars) l in
-        let u : take (2 * vars) (take (2 * vars + p .words - 0) table′) ≡ take (2 * vars) table = ap (take (2 * vars)) x ∙ take-at (take (2 * vars) table) (b .pairs) (2 * vars) d in
-        let k : numbered 8 i 0 cause ≡ blamed (λ a. note 8 i 0 a) (q .fault) = ap (numbered 8 i 0) (e ∙ ap blameWord (b .fault)) ∙ blamed-numbered 8 i 0 (q .fault) in
-        let g = rw (u, x) at f in
-        rw (sym k) (g .of m t (withBindings (q .bound) (forModule m)) c w h v (module-bound s (take (2 * vars) table) enums (b .pairs) vars (q .bound) m d (b .are) y) (known-vars s (take (2 * vars) table) enums m (q .bound) y));
+        let z : p .names - 0 ≡ p .names = omega arith in
+        let u : take 829 (take (p .names) table′) ≡ take 829 table = take-take 829 (p .names) table′ few ∙ kept in
+        let k : numbered 8 i 0 cause ≡ blamed (λ a. note 8 i 0 a) (q .fault) = ap (numbered 8 i 0) (e ∙ ap blameWord (j .fault m t c w)) ∙ blamed-numbered 8 i 0 (q .fault) in
+        let g = rw (z, u) at f in
+        rw (sym k) (g .of m t (withBindings (q .bound) (forModule m)) c w h v (j .bound m t enums c w y) (known-vars s (take 829 table) enums m (q .bound) y));
   }
 
 -- the transitions from number i on are still to be noted
-module _ (s places rows prints : List ℕ) (count : ℕ) (variants table : List ℕ) (vars : ℕ) (enums : List ℕ) (owner : ℕ) (o : List ℕ) (skip n : ℕ) where
+module _ (s places rows prints : List ℕ) (count : ℕ) (variants table enums : List ℕ) (owner : ℕ) (o : List ℕ) (skip n : ℕ) where
   pub record Turns (i r : ℕ) (table′ o′ : List ℕ) : Type 0 where
-    pub kept : take (2 * vars) table′ ≡ take (2 * vars) table
-    pub of : (m : Module) → Scene s places m → Rows s rows (m .transitions) → Prints prints (m .transitions) → count ≡ length (m .transitions) → Variants s variants (states m) → Agree (envAt s (take (2 * vars) table) enums) (forModule m) → Left owner o skip n (each (own m) (placed 0 (m .transitions))) r o′ (eachFrom (own m) i (m .transitions))
+    pub kept : take 829 table′ ≡ take 829 table
+    pub of : (m : Module) → Scene s places m → Rows s rows (m .transitions) → Prints prints (m .transitions) → count ≡ length (m .transitions) → Variants s variants (states m) → Agree (envAt s (take 829 table) enums) (forModule m) → Left owner o skip n (each (own m) (placed 0 (m .transitions))) r o′ (eachFrom (own m) i (m .transitions))
 
   pub turns-start : Turns 0 n table o
   turns-start = record { kept = refl; of = λ m c rs ps l v y. left-all owner o skip n (each (own m) (placed 0 (m .transitions))) }
 
   module _ {i r : ℕ} {table′ o′ : List ℕ} (g : Turns i r table′ o′) where
-    pub turns-more : {r′ : ℕ} {table″ o″ : List ℕ} → i < count → NotesTransition s owner o′ skip r r′ o″ places rows prints i variants table′ (2 * vars) enums → take (2 * vars) table″ ≡ take (2 * vars) table′ → Turns (i + 1) r′ table″ o″
+    pub turns-more : {r′ : ℕ} {table″ o″ : List ℕ} → i < count → NotesTransition s owner o′ skip r r′ o″ places rows prints i variants table′ 829 enums → take 829 table″ ≡ take 829 table′ → Turns (i + 1) r′ table″ o″
     turns-more h p q = record {
       kept = q ∙ g .kept;
       of = λ m c rs ps l v y.
@@ -124,7 +150,7 @@ module _ (s places rows prints : List ℕ) (count : ℕ) (variants table : List 
           each-turn (own m) i (m .transitions) (x .0) (x .1) (g .of m c rs ps l v y) (p .of m (x .0) c (rs .at i (x .0) (x .1)) (ps .at i (x .0) (x .1)) v a);
     }
 
-    pub turns-done : count ≤ i → NotesTransitions s owner o skip n r o′ places rows prints count variants table (2 * vars) enums
+    pub turns-done : count ≤ i → NotesTransitions s owner o skip n r o′ places rows prints count variants table 829 enums
     turns-done h = record { of = λ m c rs ps l v y. each-done (own m) i (m .transitions) (omega arith) (g .of m c rs ps l v y) }
 
 -- by the table of the State variants

@@ -1,12 +1,12 @@
 -- What the code of a whole module promises: the tables that it works on, and its errors and warnings.
-use Prim.Native.Nat.{ℕ, _*_, _≤_}
+use Prim.Native.Nat.{ℕ, _≤_}
 use mathlib.Core.Path.{_≡_}
 use mathlib.Core.List.{List, _++_}
 use mathlib.Core.Bool.{not}
 use lib.ListN.{length, take}
 use Rattle.reading.specs.Module.{Module}
 use Rattle.typing.specs.Env.{forModule, Agree}
-use Rattle.typing.specs.Table.{envAt}
+use Rattle.typing.specs.Blocks.{envAt}
 use Rattle.typing.specs.declared.table.Found.{Found}
 use Rattle.findings.specs.Lists.{placed, each}
 use Rattle.findings.specs.Mentions.{states, allTouched}
@@ -17,16 +17,14 @@ use Rattle.findings.specs.Noting.{Noted}
 use Rattle.findings.specs.Scene.{Bytes, Rows, Scene, StatesAt}
 use Rattle.findings.specs.Prints.{Prints}
 use Rattle.findings.specs.Promises.{Claims}
-use Rattle.findings.specs.declared.module.Named.{Named}
 
--- the first words of three tables: a module's variables, its enums, its properties and assumptions
-pub record NamedAs (s : List ℕ) (r : Named) (table enums properties : List ℕ) (m : Module) : Type 0 where
-  pub agree : Agree (envAt s (take (2 * r .vars) table) (take (r .enums) enums)) (forModule m)
-  pub claims-are : Claims s (take (r .claims) properties) (claims m)
+-- three tables: a module's variables in the first block, its enums, its properties and assumptions in the first words
+pub record NamedAs (s : List ℕ) (r : ℕ) (table enums properties : List ℕ) (m : Module) : Type 0 where
+  pub agree : Agree (envAt s (take 829 table) enums) (forModule m)
+  pub claims-are : Claims s (take r properties) (claims m)
 
-pub record Names (s places : List ℕ) (r : Named) (table enums properties : List ℕ) : Type 0 where
-  pub few-enums : r .enums ≤ 510
-  pub few-claims : r .claims ≤ 1020
+pub record Names (s places : List ℕ) (r : ℕ) (table enums properties : List ℕ) : Type 0 where
+  pub few-claims : r ≤ 1020
   pub of : (m : Module) → Bytes s → Scene s places m → NamedAs s r table enums properties m
 
 module _ (s : List ℕ) (owner : ℕ) (o : List ℕ) (skip n r : ℕ) (o′ : List ℕ) (places : List ℕ) (found : Found) where

@@ -17,14 +17,17 @@ use Rattle.reading.specs.Module.{Property, Module, readProperty}
 use Rattle.reading.specs.Skip.{textAt}
 use Rattle.typing.specs.Causes.{Answer, causeWord}
 use Rattle.typing.specs.Names.{member, firstCalled, stateEnum}
-use Rattle.typing.specs.Env.{Env, given, forModule, Agree}
+use Rattle.typing.specs.Env.{Env, given, forModule, withBindings, Agree}
+use Rattle.typing.specs.Patterns.{validateEventPattern}
 use Rattle.typing.specs.Typing.{typeExpr}
 use Rattle.typing.specs.Outputs.{validateOutputExpr}
 use Rattle.typing.specs.Formulas.{typeFormula, boundedAlwaysError}
-use Rattle.typing.specs.Table.{findFirst, findIn, envAt}
-use Rattle.typing.specs.Means.{typedOf, outcome}
+use Rattle.typing.specs.Table.{findFirst}
+use Rattle.typing.specs.Blocks.{findIn, envAt}
+use Rattle.typing.specs.Means.{typedOf, outcome, blameOf}
 use Rattle.typing.specs.declared.cause.Typed.{Typed}
 use Rattle.typing.specs.declared.table.Found.{Found}
+use Rattle.findings.specs.declared.transition.Judged.{Judged}
 use Rattle.findings.specs.Lists.{Placed, placed, each}
 use Rattle.findings.specs.Finding.{Note, note, noted, caused, blamed, typeCause}
 use Rattle.typing.specs.First.{enumName, GroupsAt}
@@ -43,6 +46,12 @@ at-place i x = record { place = i; item = x }
 -- the variables that a table knows are those of the environment
 pub record Known (s vars : List ℕ) (env : Env) : Type 0 where
   pub of : (w : Name) → given (env .vars w) ≡ given (findIn s w vars)
+
+-- the pattern of transition i: what is wrong with it, and the names with those that it binds, if the first block of the table has the
+-- module's variables
+pub record JudgesOwn (s places rows : List ℕ) (i : ℕ) (table : List ℕ) (r : Judged) (table′ : List ℕ) : Type 0 where
+  pub fault : (m : Module) (t : Transition) → Scene s places m → RowAt s rows i t → blameOf s (r .blame) ≡ validateEventPattern (m .events) (t .pattern) .fault
+  pub bound : (m : Module) (t : Transition) (enums : List ℕ) → Scene s places m → RowAt s rows i t → Agree (envAt s (take 829 table) enums) (forModule m) → Agree (envAt s (take (r .names) table′) enums) (withBindings (validateEventPattern (m .events) (t .pattern) .bound) (forModule m))
 
 -- the first enum called State, in the list of enums at a place
 pub record FirstStates (s : List ℕ) (at : ℕ) (r : Found) : Type 0 where
@@ -121,7 +130,7 @@ module _ (s : List ℕ) (owner : ℕ) (o : List ℕ) (skip n r : ℕ) (o′ : Li
   pub record NotesJudged (places rows prints : List ℕ) (i : ℕ) (variants : List ℕ) (cause : ℕ) (vars names enums : List ℕ) : Type 0 where
     pub of : (m : Module) (t : Transition) (env : Env) → Scene s places m → RowAt s rows i t → PrintOf prints i t → Variants s variants (states m) → Agree (envAt s names enums) env → Known s vars env → Notes (unknownState (states m) (t .state) (note 6 i 0 0) ++ unknownState (states m) (t .next-state) (note 7 i 0 0) ++ numbered 8 i 0 cause ++ bodyNotes env (m .outputs) (at-place i t))
 
-  -- the first k words of the table are the module's variables; bindings come after them
+  -- the first k words of the table are the module's variables
   pub record NotesTransition (places rows prints : List ℕ) (i : ℕ) (variants table : List ℕ) (k : ℕ) (enums : List ℕ) : Type 0 where
     pub of : (m : Module) (t : Transition) → Scene s places m → RowAt s rows i t → PrintOf prints i t → Variants s variants (states m) → Agree (envAt s (take k table) enums) (forModule m) → Notes (own m (at-place i t))
 

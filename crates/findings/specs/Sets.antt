@@ -5,7 +5,8 @@ use mathlib.Core.List.{List}
 use mathlib.Core.Option.{Option}
 use Rattle.reading.specs.Transition.{Assignment, readAssignment}
 use Rattle.typing.specs.Env.{Env, given, Agree}
-use Rattle.typing.specs.Table.{afterHead, found, envAt}
+use Rattle.typing.specs.Table.{afterHead, found}
+use Rattle.typing.specs.Blocks.{envAt}
 use Rattle.typing.specs.declared.table.Found.{Found}
 use Rattle.findings.specs.Errors.{setNotes}
 use Rattle.findings.specs.Noting.{Noted}

@@ -18,7 +18,6 @@ fn note_fore<'a>(
     count: u8,
     found: Found,
     table: &mut [usize],
-    vars: u8,
     enums: &'a [usize],
     out: &mut [u32],
     skip: usize,
@@ -26,20 +25,19 @@ fn note_fore<'a>(
     owner: u32,
 ) -> usize
     requires { ⌜ n + 131328 ≤ 2 ^ 40 ⌝ }
-    requires { ⌜ 1020 ≤ length (now table) ⌝ }
-    ensures { λ r. ⌜ NotesFore (now (doc .entry)) owner (now (out .entry)) skip n r (now (out .exit)) (now (places .entry)) found (now (rows .entry)) (now (prints .entry)) count (take (2 * vars) (now (table .entry))) (now (enums .entry)) ⌝ }
+    requires { ⌜ 1658 ≤ length (now table) ⌝ }
+    ensures { λ r. ⌜ NotesFore (now (doc .entry)) owner (now (out .entry)) skip n r (now (out .exit)) (now (places .entry)) found (now (rows .entry)) (now (prints .entry)) count (take 829 (now (table .entry))) (now (enums .entry)) ⌝ }
     ensures { λ r. ⌜ r ≤ n + 131328 ⌝ }
     ensures { λ _. ⌜ length (now (table .exit)) ≡ length (now (table .entry)) ⌝ }
-    ensures { λ _. ⌜ take (2 * vars) (now (table .exit)) ≡ take (2 * vars) (now (table .entry)) ⌝ }
+    ensures { λ _. ⌜ take 829 (now (table .exit)) ≡ take 829 (now (table .entry)) ⌝ }
 {
-    let k = 2 * (vars as usize);
     let moves = 0 < count;
     let a = note_opening(
         doc,
         places,
         found,
         moves,
-        &table[0..k],
+        &table[0..829],
         enums,
         out,
         skip,
@@ -54,7 +52,6 @@ fn note_fore<'a>(
         count,
         found,
         table,
-        vars,
         enums,
         out,
         skip,
@@ -72,7 +69,6 @@ fn note_most<'a>(
     count: u8,
     found: Found,
     table: &mut [usize],
-    vars: u8,
     enums: &'a [usize],
     out: &mut [u32],
     skip: usize,
@@ -81,11 +77,11 @@ fn note_most<'a>(
 ) -> usize
     requires { ⌜ 768 ≤ length (now prints) ⌝ }
     requires { ⌜ n + 33294078 ≤ 2 ^ 40 ⌝ }
-    requires { ⌜ 1020 ≤ length (now table) ⌝ }
-    ensures { λ r. ⌜ NotesMost (now (doc .entry)) owner (now (out .entry)) skip n r (now (out .exit)) (now (places .entry)) found (now (rows .entry)) (now (prints .entry)) count (take (2 * vars) (now (table .entry))) (now (enums .entry)) ⌝ }
+    requires { ⌜ 1658 ≤ length (now table) ⌝ }
+    ensures { λ r. ⌜ NotesMost (now (doc .entry)) owner (now (out .entry)) skip n r (now (out .exit)) (now (places .entry)) found (now (rows .entry)) (now (prints .entry)) count (take 829 (now (table .entry))) (now (enums .entry)) ⌝ }
     ensures { λ r. ⌜ r ≤ n + 33294078 ⌝ }
     ensures { λ _. ⌜ length (now (table .exit)) ≡ length (now (table .entry)) ⌝ }
-    ensures { λ _. ⌜ take (2 * vars) (now (table .exit)) ≡ take (2 * vars) (now (table .entry)) ⌝ }
+    ensures { λ _. ⌜ take 829 (now (table .exit)) ≡ take 829 (now (table .entry)) ⌝ }
 {
     let a = note_fore(
         doc,
@@ -95,7 +91,6 @@ fn note_most<'a>(
         count,
         found,
         table,
-        vars,
         enums,
         out,
         skip,
@@ -111,7 +106,6 @@ fn note_aft<'a>(
     places: &'a [usize],
     found: Found,
     table: &'a [usize],
-    vars: u8,
     enums: &'a [usize],
     claims: &'a [usize],
     out: &mut [u32],
@@ -119,14 +113,13 @@ fn note_aft<'a>(
     n: usize,
     owner: u32,
 ) -> usize
-    requires { ⌜ 1020 ≤ length (now table) ⌝ }
+    requires { ⌜ 1658 ≤ length (now table) ⌝ }
     requires { ⌜ length (now claims) ≤ 1020 ⌝ }
     requires { ⌜ n + 1786 ≤ 2 ^ 40 ⌝ }
-    ensures { λ r. ⌜ NotesClosing (now (doc .entry)) owner (now (out .entry)) skip n r (now (out .exit)) (now (places .entry)) found (take (2 * vars) (now (table .entry))) (now (enums .entry)) (now (claims .entry)) ⌝ }
+    ensures { λ r. ⌜ NotesClosing (now (doc .entry)) owner (now (out .entry)) skip n r (now (out .exit)) (now (places .entry)) found (take 829 (now (table .entry))) (now (enums .entry)) (now (claims .entry)) ⌝ }
     ensures { λ r. ⌜ r ≤ n + 1786 ⌝ }
 {
-    let k = 2 * (vars as usize);
-    let names = &table[0..k];
+    let names = &table[0..829];
     note_closing(
         doc,
         places,
@@ -150,7 +143,6 @@ pub(crate) fn note_errors<'a>(
     count: u8,
     found: Found,
     table: &mut [usize],
-    vars: u8,
     enums: &'a [usize],
     claims: &'a [usize],
     out: &mut [u32],
@@ -159,10 +151,10 @@ pub(crate) fn note_errors<'a>(
     owner: u32,
 ) -> usize
     requires { ⌜ n + 33295864 ≤ 2 ^ 40 ⌝ }
-    requires { ⌜ 1020 ≤ length (now table) ⌝ }
+    requires { ⌜ 1658 ≤ length (now table) ⌝ }
     requires { ⌜ length (now claims) ≤ 1020 ⌝ }
     requires { ⌜ 768 ≤ length (now prints) ⌝ }
-    ensures { λ r. ⌜ NotesErrors (now (doc .entry)) owner (now (out .entry)) skip n r (now (out .exit)) (now (places .entry)) found (now (rows .entry)) (now (prints .entry)) count (take (2 * vars) (now (table .entry))) (now (enums .entry)) (now (claims .entry)) ⌝ }
+    ensures { λ r. ⌜ NotesErrors (now (doc .entry)) owner (now (out .entry)) skip n r (now (out .exit)) (now (places .entry)) found (now (rows .entry)) (now (prints .entry)) count (take 829 (now (table .entry))) (now (enums .entry)) (now (claims .entry)) ⌝ }
     ensures { λ r. ⌜ r ≤ n + 33295864 ⌝ }
 {
     let a = note_most(
@@ -173,7 +165,6 @@ pub(crate) fn note_errors<'a>(
         count,
         found,
         table,
-        vars,
         enums,
         out,
         skip,
@@ -185,7 +176,6 @@ pub(crate) fn note_errors<'a>(
         places,
         found,
         table,
-        vars,
         enums,
         claims,
         out,

@@ -9,6 +9,7 @@ use crate::rows::outputs_of;
 use crate::rows::word;
 use typing::Found;
 use typing::after;
+use typing::fill_block;
 use typing::fill_table;
 use typing::store;
 ghost use mathlib.Core.Path.{_≡_};
@@ -84,37 +85,24 @@ pub(crate) fn fill_claims(
     first + second
 }
 
-// How many variables a module has, and how many words the tables of its enums and of its properties take.
-pub struct Named {
-    pub vars: u8,
-    pub enums: usize,
-    pub claims: usize,
-}
-
-// Fills the tables of names: variables, enums, properties and assumptions.
+// Fills the tables of names: variables, enums, properties and assumptions; how many words the last takes.
 pub(crate) fn fill_names(
     doc: &[u8],
     places: &[usize],
     table: &mut [usize],
     enums: &mut [usize],
     claims: &mut [usize],
-) -> Named
-    requires { ⌜ 510 ≤ length (now table) ⌝ }
-    requires { ⌜ 510 ≤ length (now enums) ⌝ }
+) -> usize
+    requires { ⌜ 829 ≤ length (now table) ⌝ }
+    requires { ⌜ length (now enums) ≡ 829 ⌝ }
     requires { ⌜ length (now claims) ≡ 1020 ⌝ }
     ensures { λ r. ⌜ Names (now (doc .entry)) (now (places .entry)) r (now (table .exit)) (now (enums .exit)) (now (claims .exit)) ⌝ }
 {
-    let vars = fill_table(doc, word(places, 7), table);
-    let words = fill_table(doc, word(places, 3), enums);
+    fill_block(doc, word(places, 7), table);
+    fill_block(doc, word(places, 3), enums);
     let properties = word(places, 9);
     let assumptions = word(places, 10);
-    let all = fill_claims(doc, properties, assumptions, claims);
-    let many = vars / 2;
-    Named {
-        vars: many as u8,
-        enums: words,
-        claims: all,
-    }
+    fill_claims(doc, properties, assumptions, claims)
 }
 
 // Sites 16 to 20.

@@ -1,6 +1,5 @@
 // What is noted of the assignments of a transition.
 use crate::cause::note_typed;
-use crate::lanes::add_all;
 use crate::sheet::emit;
 use reading::Answer;
 use reading::Cursor;
@@ -9,12 +8,7 @@ use typing::Found;
 use typing::after;
 use typing::after_head;
 use typing::find;
-use typing::lane_find;
-ghost use mathlib.Core.Path.{_≡_};
-ghost use Prim.Native.Nat.{_+_, _/_, _≤_, _^_};
-ghost use lib.ListN.{length};
-ghost use Rattle.typing.specs.Table.{findIn, found};
-ghost use Rattle.typing.specs.Lanes.{Lanes};
+ghost use Prim.Native.Nat.{_+_, _≤_, _^_};
 ghost use Rattle.findings.specs.Promises.{NotesSet, NotesSets};
 ghost use Rattle.findings.specs.Sets.{NotesFound};
 
@@ -80,134 +74,6 @@ fn note_set<'a>(
     note_found(doc, var, f, i, j, names, enums, out, skip, n, owner)
 }
 
-// What stands under a name in a table, by the lanes of all its pairs.
-fn find_on_lane<'a>(
-    doc: &'a [u8],
-    table: &'a [usize],
-    heads: &'a [u16],
-    links: &'a [u16],
-    name: &'a [u8],
-) -> Found
-    requires { ⌜ Lanes (now doc) (now table) (length (now table) / 2) (now heads) (now links) ⌝ }
-    ensures { λ r. ⌜ r ≡ found (findIn (now (doc .entry)) (now (name .entry)) (now (table .entry))) ⌝ }
-{
-    lane_find(doc, table, table.len() / 2, heads, links, name)
-}
-
-// Sites 11 and 12 of the assignment at a place, whose variable is looked for on its lane.
-fn note_on_lane<'a>(
-    doc: &'a [u8],
-    at: usize,
-    i: u8,
-    j: u8,
-    vars: &'a [usize],
-    heads: &'a [u16],
-    links: &'a [u16],
-    names: &'a [usize],
-    enums: &'a [usize],
-    out: &mut [u32],
-    skip: usize,
-    n: usize,
-    owner: u32,
-) -> usize
-    requires { ⌜ Lanes (now doc) (now vars) (length (now vars) / 2) (now heads) (now links) ⌝ }
-    requires { ⌜ n + 1 ≤ 2 ^ 40 ⌝ }
-    ensures { λ r. ⌜ NotesSet (now (doc .entry)) owner (now (out .entry)) skip n r (now (out .exit)) at i j (now (vars .entry)) (now (names .entry)) (now (enums .entry)) ⌝ }
-    ensures { λ r. ⌜ r ≤ n + 1 ⌝ }
-{
-    let var = after_head(doc, at);
-    let f = find_on_lane(doc, vars, heads, links, text_at(doc, var));
-    note_found(doc, var, f, i, j, names, enums, out, skip, n, owner)
-}
-
-// The same of each assignment of the list at a place.
-fn note_on_lanes<'a>(
-    doc: &'a [u8],
-    at: usize,
-    i: u8,
-    vars: &'a [usize],
-    heads: &'a [u16],
-    links: &'a [u16],
-    names: &'a [usize],
-    enums: &'a [usize],
-    out: &mut [u32],
-    skip: usize,
-    n: usize,
-    owner: u32,
-) -> usize
-    requires { ⌜ Lanes (now doc) (now vars) (length (now vars) / 2) (now heads) (now links) ⌝ }
-    requires { ⌜ n + 255 ≤ 2 ^ 40 ⌝ }
-    ensures { λ r. ⌜ NotesSets (now (doc .entry)) owner (now (out .entry)) skip n r (now (out .exit)) at i (now (vars .entry)) (now (names .entry)) (now (enums .entry)) ⌝ }
-    ensures { λ r. ⌜ r ≤ n + 255 ⌝ }
-{
-    let c = Cursor { at };
-    let a = c.count(doc, 255);
-    let Answer::Got(count, first) = a else {
-        return n;
-    };
-    let many = count as u8;
-    let mut k = first.at;
-    let mut j: u8 = 0;
-    let mut next = n;
-    while j < many {
-        next = note_on_lane(
-            doc,
-            k,
-            i,
-            j,
-            vars,
-            heads,
-            links,
-            names,
-            enums,
-            out,
-            skip,
-            next,
-            owner,
-        );
-        k = after(doc, k);
-        j += 1;
-    }
-    next
-}
-
-// The same of a long list: the variables are put on lanes first.
-fn note_many<'a>(
-    doc: &'a [u8],
-    at: usize,
-    i: u8,
-    vars: &'a [usize],
-    names: &'a [usize],
-    enums: &'a [usize],
-    out: &mut [u32],
-    skip: usize,
-    n: usize,
-    owner: u32,
-) -> usize
-    requires { ⌜ length (now vars) ≤ 510 ⌝ }
-    requires { ⌜ n + 255 ≤ 2 ^ 40 ⌝ }
-    ensures { λ r. ⌜ NotesSets (now (doc .entry)) owner (now (out .entry)) skip n r (now (out .exit)) at i (now (vars .entry)) (now (names .entry)) (now (enums .entry)) ⌝ }
-    ensures { λ r. ⌜ r ≤ n + 255 ⌝ }
-{
-    let mut heads = [0u16; 1024];
-    let mut links = [0u16; 255];
-    add_all(doc, vars, &mut heads, &mut links);
-    note_on_lanes(
-        doc,
-        at,
-        i,
-        vars,
-        &heads,
-        &links,
-        names,
-        enums,
-        out,
-        skip,
-        n,
-        owner,
-    )
-}
-
 // Sites 11 and 12 of each assignment of the list at a place.
 pub(crate) fn note_sets<'a>(
     doc: &'a [u8],
@@ -230,11 +96,6 @@ pub(crate) fn note_sets<'a>(
     let Answer::Got(count, first) = a else {
         return n;
     };
-    if 16 <= count {
-        if vars.len() <= 510 {
-            return note_many(doc, at, i, vars, names, enums, out, skip, n, owner);
-        }
-    }
     let many = count as u8;
     let mut k = first.at;
     let mut j: u8 = 0;

@@ -10,15 +10,17 @@ use crate::sheet::emit_cause;
 use crate::variants::fill_states;
 use crate::variants::note_variant;
 use typing::Bindings;
+use typing::Blame;
 use typing::Found;
 use typing::blame_number;
 use typing::validate_event_pattern;
+use typing::weave;
 ghost use mathlib.Core.Path.{_≡_};
-ghost use Prim.Native.Nat.{_+_, _*_, _≤_, _^_};
+ghost use Prim.Native.Nat.{_+_, _≤_, _^_};
 ghost use lib.ListN.{length, take};
 ghost use Rattle.typing.specs.Blames.{Spares, JudgesPattern};
 ghost use Rattle.findings.specs.Scene.{field, eventsIn};
-ghost use Rattle.findings.specs.Promises.{NotesBody, NotesHeads, NotesJudged, NotesTransition, NotesTransitions, NotesMoves};
+ghost use Rattle.findings.specs.Promises.{JudgesOwn, NotesBody, NotesHeads, NotesJudged, NotesTransition, NotesTransitions, NotesMoves};
 
 // Sites 9 to 13, of transition i: its guard, its assignments, then its outputs.
 pub(crate) fn note_body<'a>(
@@ -86,8 +88,8 @@ fn note_heads<'a>(
     emit_cause(cause, out, skip, b, owner, 8, first, 0)
 }
 
-// Sites 6 to 13, of transition i: by the number of what is wrong with its pattern, and by the table of all names, of which the first k
-// words are those of the module's variables.
+// Sites 6 to 13, of transition i: by the number of what is wrong with its pattern, and by the table of all names, of which the first block
+// has the module's variables.
 fn note_judged<'a>(
     doc: &'a [u8],
     places: &'a [usize],
@@ -98,7 +100,6 @@ fn note_judged<'a>(
     hints: &'a [u8; 256],
     cause: u32,
     names: &'a [usize],
-    k: usize,
     enums: &'a [usize],
     out: &mut [u32],
     skip: usize,
@@ -106,8 +107,8 @@ fn note_judged<'a>(
     owner: u32,
 ) -> usize
     requires { ⌜ n + 514 ≤ 2 ^ 40 ⌝ }
-    requires { ⌜ k ≤ length (now names) ⌝ }
-    ensures { λ r. ⌜ NotesJudged (now (doc .entry)) owner (now (out .entry)) skip n r (now (out .exit)) (now (places .entry)) (now (rows .entry)) (now (prints .entry)) i (now (variants .entry)) cause (take k (now (names .entry))) (now (names .entry)) (now (enums .entry)) ⌝ }
+    requires { ⌜ 829 ≤ length (now names) ⌝ }
+    ensures { λ r. ⌜ NotesJudged (now (doc .entry)) owner (now (out .entry)) skip n r (now (out .exit)) (now (places .entry)) (now (rows .entry)) (now (prints .entry)) i (now (variants .entry)) cause (take 829 (now (names .entry))) (now (names .entry)) (now (enums .entry)) ⌝ }
     ensures { λ r. ⌜ r ≤ n + 514 ⌝ }
 {
     let a = note_heads(
@@ -124,7 +125,7 @@ fn note_judged<'a>(
         owner,
     );
     let outputs = outputs_of(places);
-    let vars = &names[0..k];
+    let vars = &names[0..829];
     note_body(
         doc,
         rows,
@@ -140,26 +141,52 @@ fn note_judged<'a>(
     )
 }
 
-// The pattern of transition i, by the module's groups of events; its bindings go into the table from word k on.
+// The pattern of transition i, by the module's groups of events; its bindings go into the second block of the table.
+fn bind_pattern<'a>(
+    doc: &'a [u8],
+    places: &'a [usize],
+    rows: &'a [usize],
+    i: u8,
+    table: &mut [usize],
+) -> Bindings
+    ensures { λ r. ⌜ JudgesPattern (now (doc .entry)) (field (now (rows .entry)) i 2) (eventsIn (now (places .entry))) (now (table .entry)) 829 r (now (table .exit)) ⌝ }
+    ensures { λ r. ⌜ Spares (now (table .entry)) 829 r (now (table .exit)) ⌝ }
+{
+    let at = field(rows, i, 2);
+    validate_event_pattern(doc, at, events_of(places), table, 829)
+}
+
+// What is wrong with a pattern, and how many words of a table are the names with those that it binds.
+pub struct Judged {
+    pub blame: Blame,
+    pub names: usize,
+}
+
+// The same, with the bindings on their lanes. The first block of the table has the module's variables.
 pub fn judge_pattern<'a>(
     doc: &'a [u8],
     places: &'a [usize],
     rows: &'a [usize],
     i: u8,
     table: &mut [usize],
-    k: usize,
-) -> Bindings
-    requires { ⌜ k + 510 ≤ length (now table) ⌝ }
-    ensures { λ r. ⌜ JudgesPattern (now (doc .entry)) (field (now (rows .entry)) i 2) (eventsIn (now (places .entry))) (now (table .entry)) k r (now (table .exit)) ⌝ }
-    ensures { λ r. ⌜ Spares (now (table .entry)) k r (now (table .exit)) ⌝ }
-    ensures { λ r. ⌜ k + r .words ≤ length (now (table .entry)) ⌝ }
+) -> Judged
+    requires { ⌜ 1658 ≤ length (now table) ⌝ }
+    ensures { λ r. ⌜ JudgesOwn (now (doc .entry)) (now (places .entry)) (now (rows .entry)) i (now (table .entry)) r (now (table .exit)) ⌝ }
+    ensures { λ _. ⌜ length (now (table .exit)) ≡ length (now (table .entry)) ⌝ }
+    ensures { λ _. ⌜ take 829 (now (table .exit)) ≡ take 829 (now (table .entry)) ⌝ }
+    ensures { λ r. ⌜ 829 ≤ r .names ⌝ }
+    ensures { λ r. ⌜ r .names ≤ 1658 ⌝ }
 {
-    let at = field(rows, i, 2);
-    validate_event_pattern(doc, at, events_of(places), table, k)
+    let p = bind_pattern(doc, places, rows, i, table);
+    let blame = p.blame;
+    if p.words == 0 {
+        return Judged { blame, names: 829 };
+    }
+    weave(doc, table, 829, p.words / 2);
+    Judged { blame, names: 1658 }
 }
 
-// Sites 6 to 13, of transition i. The table has two words for each of the module's variables; those of the pattern's bindings go after
-// them.
+// Sites 6 to 13, of transition i. The first block of the table has the module's variables; the pattern's bindings go into the second.
 pub(crate) fn note_transition<'a>(
     doc: &'a [u8],
     places: &'a [usize],
@@ -169,7 +196,6 @@ pub(crate) fn note_transition<'a>(
     variants: &'a [usize],
     hints: &'a [u8; 256],
     table: &mut [usize],
-    vars: u8,
     enums: &'a [usize],
     out: &mut [u32],
     skip: usize,
@@ -177,17 +203,16 @@ pub(crate) fn note_transition<'a>(
     owner: u32,
 ) -> usize
     requires { ⌜ n + 514 ≤ 2 ^ 40 ⌝ }
-    requires { ⌜ 1020 ≤ length (now table) ⌝ }
-    ensures { λ r. ⌜ NotesTransition (now (doc .entry)) owner (now (out .entry)) skip n r (now (out .exit)) (now (places .entry)) (now (rows .entry)) (now (prints .entry)) i (now (variants .entry)) (now (table .entry)) (2 * vars) (now (enums .entry)) ⌝ }
+    requires { ⌜ 1658 ≤ length (now table) ⌝ }
+    ensures { λ r. ⌜ NotesTransition (now (doc .entry)) owner (now (out .entry)) skip n r (now (out .exit)) (now (places .entry)) (now (rows .entry)) (now (prints .entry)) i (now (variants .entry)) (now (table .entry)) 829 (now (enums .entry)) ⌝ }
     ensures { λ r. ⌜ r ≤ n + 514 ⌝ }
     ensures { λ _. ⌜ length (now (table .exit)) ≡ length (now (table .entry)) ⌝ }
-    ensures { λ _. ⌜ take (2 * vars) (now (table .exit)) ≡ take (2 * vars) (now (table .entry)) ⌝ }
+    ensures { λ _. ⌜ take 829 (now (table .exit)) ≡ take 829 (now (table .entry)) ⌝ }
 {
-    let k = 2 * (vars as usize);
-    let p = judge_pattern(doc, places, rows, i, table, k);
+    let p = judge_pattern(doc, places, rows, i, table);
     let blame = p.blame;
     let cause = blame_number(doc, blame);
-    let end = k + p.words;
+    let end = p.names;
     let names = &table[0..end];
     note_judged(
         doc,
@@ -199,7 +224,6 @@ pub(crate) fn note_transition<'a>(
         hints,
         cause,
         names,
-        k,
         enums,
         out,
         skip,
@@ -218,7 +242,6 @@ fn note_transitions<'a>(
     variants: &'a [usize],
     hints: &'a [u8; 256],
     table: &mut [usize],
-    vars: u8,
     enums: &'a [usize],
     out: &mut [u32],
     skip: usize,
@@ -226,11 +249,11 @@ fn note_transitions<'a>(
     owner: u32,
 ) -> usize
     requires { ⌜ n + 131070 ≤ 2 ^ 40 ⌝ }
-    requires { ⌜ 1020 ≤ length (now table) ⌝ }
-    ensures { λ r. ⌜ NotesTransitions (now (doc .entry)) owner (now (out .entry)) skip n r (now (out .exit)) (now (places .entry)) (now (rows .entry)) (now (prints .entry)) count (now (variants .entry)) (now (table .entry)) (2 * vars) (now (enums .entry)) ⌝ }
+    requires { ⌜ 1658 ≤ length (now table) ⌝ }
+    ensures { λ r. ⌜ NotesTransitions (now (doc .entry)) owner (now (out .entry)) skip n r (now (out .exit)) (now (places .entry)) (now (rows .entry)) (now (prints .entry)) count (now (variants .entry)) (now (table .entry)) 829 (now (enums .entry)) ⌝ }
     ensures { λ r. ⌜ r ≤ n + 131070 ⌝ }
     ensures { λ _. ⌜ length (now (table .exit)) ≡ length (now (table .entry)) ⌝ }
-    ensures { λ _. ⌜ take (2 * vars) (now (table .exit)) ≡ take (2 * vars) (now (table .entry)) ⌝ }
+    ensures { λ _. ⌜ take 829 (now (table .exit)) ≡ take 829 (now (table .entry)) ⌝ }
 {
     let mut i: u8 = 0;
     let mut next = n;
@@ -244,7 +267,6 @@ fn note_transitions<'a>(
             variants,
             hints,
             table,
-            vars,
             enums,
             out,
             skip,
@@ -265,7 +287,6 @@ pub(crate) fn note_moves<'a>(
     count: u8,
     found: Found,
     table: &mut [usize],
-    vars: u8,
     enums: &'a [usize],
     out: &mut [u32],
     skip: usize,
@@ -273,11 +294,11 @@ pub(crate) fn note_moves<'a>(
     owner: u32,
 ) -> usize
     requires { ⌜ n + 131070 ≤ 2 ^ 40 ⌝ }
-    requires { ⌜ 1020 ≤ length (now table) ⌝ }
-    ensures { λ r. ⌜ NotesMoves (now (doc .entry)) owner (now (out .entry)) skip n r (now (out .exit)) (now (places .entry)) (now (rows .entry)) (now (prints .entry)) count found (now (table .entry)) (2 * vars) (now (enums .entry)) ⌝ }
+    requires { ⌜ 1658 ≤ length (now table) ⌝ }
+    ensures { λ r. ⌜ NotesMoves (now (doc .entry)) owner (now (out .entry)) skip n r (now (out .exit)) (now (places .entry)) (now (rows .entry)) (now (prints .entry)) count found (now (table .entry)) 829 (now (enums .entry)) ⌝ }
     ensures { λ r. ⌜ r ≤ n + 131070 ⌝ }
     ensures { λ _. ⌜ length (now (table .exit)) ≡ length (now (table .entry)) ⌝ }
-    ensures { λ _. ⌜ take (2 * vars) (now (table .exit)) ≡ take (2 * vars) (now (table .entry)) ⌝ }
+    ensures { λ _. ⌜ take 829 (now (table .exit)) ≡ take 829 (now (table .entry)) ⌝ }
 {
     let mut states = [0usize; 510];
     let mut hints = [0u8; 256];
@@ -292,7 +313,6 @@ pub(crate) fn note_moves<'a>(
         variants,
         &hints,
         table,
-        vars,
         enums,
         out,
         skip,

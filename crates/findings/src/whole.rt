@@ -36,8 +36,7 @@ fn judge_module<'a>(
     count: u8,
     found: Found,
     table: &mut [usize],
-    vars: u8,
-    enums: &'a [usize],
+enums: &'a [usize],
     claims: &'a [usize],
     out: &mut [u32],
     skip: usize,
@@ -48,11 +47,11 @@ fn judge_module<'a>(
     owner: u32,
 ) -> Totals
     requires { ⌜ 768 ≤ length (now prints) ⌝ }
-    requires { ⌜ 1020 ≤ length (now table) ⌝ }
+    requires { ⌜ 1658 ≤ length (now table) ⌝ }
     requires { ⌜ length (now claims) ≤ 1020 ⌝ }
     requires { ⌜ n + 33295864 ≤ 2 ^ 40 ⌝ }
     requires { ⌜ k + 33228540 ≤ 2 ^ 40 ⌝ }
-    ensures { λ r. ⌜ NotesErrors (now (doc .entry)) owner (now (out .entry)) skip n (r .errors) (now (out .exit)) (now (places .entry)) found (now (rows .entry)) (now (prints .entry)) count (take (2 * vars) (now (table .entry))) (now (enums .entry)) (now (claims .entry)) ⌝ }
+    ensures { λ r. ⌜ NotesErrors (now (doc .entry)) owner (now (out .entry)) skip n (r .errors) (now (out .exit)) (now (places .entry)) found (now (rows .entry)) (now (prints .entry)) count (take 829 (now (table .entry))) (now (enums .entry)) (now (claims .entry)) ⌝ }
     ensures { λ r. ⌜ NotesWarnings (now (doc .entry)) owner (now (aside .entry)) leave k (r .warnings) (now (aside .exit)) (now (places .entry)) found (now (rows .entry)) (now (prints .entry)) count ⌝ }
     ensures { λ r. ⌜ r .errors ≤ n + 33295864 ⌝ }
     ensures { λ r. ⌜ r .warnings ≤ k + 33228540 ⌝ }
@@ -65,7 +64,6 @@ fn judge_module<'a>(
         count,
         found,
         table,
-        vars,
         enums,
         claims,
         out,
@@ -88,7 +86,7 @@ fn judge_module<'a>(
     Totals { errors, warnings }
 }
 
-// The same, where the tables take a words of enums and b of properties and assumptions.
+// The same, where the table of properties and assumptions takes b words.
 fn judge_named<'a>(
     doc: &'a [u8],
     places: &'a [usize],
@@ -97,8 +95,6 @@ fn judge_named<'a>(
     count: u8,
     found: Found,
     table: &mut [usize],
-    vars: u8,
-    a: usize,
     b: usize,
     enums: &'a [usize],
     claims: &'a [usize],
@@ -111,18 +107,16 @@ fn judge_named<'a>(
     owner: u32,
 ) -> Totals
     requires { ⌜ 768 ≤ length (now prints) ⌝ }
-    requires { ⌜ 1020 ≤ length (now table) ⌝ }
-    requires { ⌜ a ≤ length (now enums) ⌝ }
+    requires { ⌜ 1658 ≤ length (now table) ⌝ }
     requires { ⌜ b ≤ length (now claims) ⌝ }
     requires { ⌜ b ≤ 1020 ⌝ }
     requires { ⌜ n + 33295864 ≤ 2 ^ 40 ⌝ }
     requires { ⌜ k + 33228540 ≤ 2 ^ 40 ⌝ }
-    ensures { λ r. ⌜ NotesErrors (now (doc .entry)) owner (now (out .entry)) skip n (r .errors) (now (out .exit)) (now (places .entry)) found (now (rows .entry)) (now (prints .entry)) count (take (2 * vars) (now (table .entry))) (take (a - 0) (now (enums .entry))) (take (b - 0) (now (claims .entry))) ⌝ }
+    ensures { λ r. ⌜ NotesErrors (now (doc .entry)) owner (now (out .entry)) skip n (r .errors) (now (out .exit)) (now (places .entry)) found (now (rows .entry)) (now (prints .entry)) count (take 829 (now (table .entry))) (now (enums .entry)) (take (b - 0) (now (claims .entry))) ⌝ }
     ensures { λ r. ⌜ NotesWarnings (now (doc .entry)) owner (now (aside .entry)) leave k (r .warnings) (now (aside .exit)) (now (places .entry)) found (now (rows .entry)) (now (prints .entry)) count ⌝ }
     ensures { λ r. ⌜ r .errors ≤ n + 33295864 ⌝ }
     ensures { λ r. ⌜ r .warnings ≤ k + 33228540 ⌝ }
 {
-    let known = &enums[0..a];
     let listed = &claims[0..b];
     judge_module(
         doc,
@@ -132,8 +126,7 @@ fn judge_named<'a>(
         count,
         found,
         table,
-        vars,
-        known,
+        enums,
         listed,
         out,
         skip,
@@ -179,11 +172,9 @@ fn states_of<'a>(doc: &'a [u8], places: &'a [usize]) -> Found
     first_states(doc, enums)
 }
 
-// The first enum called State, how many variables there are, and how many words the tables of names take.
+// The first enum called State, and how many words the table of properties and assumptions takes.
 pub struct Ready {
     pub found: Found,
-    pub vars: u8,
-    pub enums: usize,
     pub claims: usize,
 }
 
@@ -195,21 +186,18 @@ pub fn name_module<'a>(
     enums: &mut [usize],
     claims: &mut [usize],
 ) -> Ready
-    requires { ⌜ 510 ≤ length (now table) ⌝ }
-    requires { ⌜ 510 ≤ length (now enums) ⌝ }
+    requires { ⌜ 829 ≤ length (now table) ⌝ }
+    requires { ⌜ length (now enums) ≡ 829 ⌝ }
     requires { ⌜ length (now claims) ≡ 1020 ⌝ }
     ensures { λ r. ⌜ FirstStates (now (doc .entry)) (getD (now (places .entry)) 3 0) (r .found) ⌝ }
-    ensures { λ r. ⌜ Names (now (doc .entry)) (now (places .entry)) (record { vars = r .vars; enums = r .enums; claims = r .claims }) (now (table .exit)) (now (enums .exit)) (now (claims .exit)) ⌝ }
-    ensures { λ r. ⌜ r .enums ≤ 510 ⌝ }
+    ensures { λ r. ⌜ Names (now (doc .entry)) (now (places .entry)) (r .claims) (now (table .exit)) (now (enums .exit)) (now (claims .exit)) ⌝ }
     ensures { λ r. ⌜ r .claims ≤ 1020 ⌝ }
 {
     let found = states_of(doc, places);
-    let named = fill_names(doc, places, table, enums, claims);
+    let words = fill_names(doc, places, table, enums, claims);
     Ready {
         found,
-        vars: named.vars,
-        enums: named.enums,
-        claims: named.claims,
+        claims: words,
     }
 }
 
@@ -232,8 +220,8 @@ fn walk_named<'a>(
     k: usize,
 ) -> Totals
     requires { ⌜ 768 ≤ length (now prints) ⌝ }
-    requires { ⌜ 1020 ≤ length (now table) ⌝ }
-    requires { ⌜ 510 ≤ length (now enums) ⌝ }
+    requires { ⌜ 1658 ≤ length (now table) ⌝ }
+    requires { ⌜ length (now enums) ≡ 829 ⌝ }
     requires { ⌜ length (now claims) ≡ 1020 ⌝ }
     requires { ⌜ n + 33295864 ≤ 2 ^ 40 ⌝ }
     requires { ⌜ k + 33228540 ≤ 2 ^ 40 ⌝ }
@@ -251,8 +239,6 @@ fn walk_named<'a>(
         count,
         found,
         table,
-        known.vars,
-        known.enums,
         known.claims,
         enums,
         claims,
@@ -287,8 +273,8 @@ fn walk_module(
     requires { ⌜ 1033 ≤ length (now places) ⌝ }
     requires { ⌜ 2040 ≤ length (now rows) ⌝ }
     requires { ⌜ 768 ≤ length (now prints) ⌝ }
-    requires { ⌜ 1020 ≤ length (now table) ⌝ }
-    requires { ⌜ 510 ≤ length (now enums) ⌝ }
+    requires { ⌜ 1658 ≤ length (now table) ⌝ }
+    requires { ⌜ length (now enums) ≡ 829 ⌝ }
     requires { ⌜ length (now claims) ≡ 1020 ⌝ }
     requires { ⌜ n + 33295864 ≤ 2 ^ 40 ⌝ }
     requires { ⌜ k + 33228540 ≤ 2 ^ 40 ⌝ }
@@ -341,8 +327,8 @@ fn walk_modules(
     requires { ⌜ 1033 ≤ length (now places) ⌝ }
     requires { ⌜ 2040 ≤ length (now rows) ⌝ }
     requires { ⌜ 768 ≤ length (now prints) ⌝ }
-    requires { ⌜ 1020 ≤ length (now table) ⌝ }
-    requires { ⌜ 510 ≤ length (now enums) ⌝ }
+    requires { ⌜ 1658 ≤ length (now table) ⌝ }
+    requires { ⌜ length (now enums) ≡ 829 ⌝ }
     requires { ⌜ length (now claims) ≡ 1020 ⌝ }
     requires { ⌜ n + 532733824 ≤ 2 ^ 40 ⌝ }
     requires { ⌜ k + 531656640 ≤ 2 ^ 40 ⌝ }
@@ -407,8 +393,8 @@ pub(crate) fn walk_all(
     let mut places = [0usize; 1033];
     let mut rows = [0usize; 2040];
     let mut prints = [0u32; 768];
-    let mut table = [0usize; 1020];
-    let mut enums = [0usize; 510];
+    let mut table = [0usize; 1658];
+    let mut enums = [0usize; 829];
     let mut claims = [0usize; 1020];
     let version = after_head(doc, 0);
     let modules = after(doc, version);

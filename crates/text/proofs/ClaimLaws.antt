@@ -13,7 +13,7 @@ use Rattle.typing.specs.Env.{forModule}
 use Rattle.typing.specs.Formulas.{typeFormula}
 use Rattle.typing.specs.Judges.{TypesFormula}
 use Rattle.typing.specs.Means.{unfitOf, blameOf}
-use Rattle.typing.specs.Table.{envAt}
+use Rattle.typing.specs.Blocks.{envAt}
 use Rattle.typing.specs.declared.cause.Blame.{Blame}
 use Rattle.typing.specs.declared.cause.Blame.the-variants as blame
 use Rattle.typing.specs.declared.rules.Fit.{Fit}

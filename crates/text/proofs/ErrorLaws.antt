@@ -19,7 +19,8 @@ use Rattle.typing.specs.Env.{forModule}
 use Rattle.typing.specs.Outputs.{validateOutputExpr}
 use Rattle.typing.specs.Blames.{JudgesOutput}
 use Rattle.typing.specs.Means.{blameOf}
-use Rattle.typing.specs.Table.{afterItem, afterHead, Past, envAt}
+use Rattle.typing.specs.Table.{afterItem, afterHead, Past}
+use Rattle.typing.specs.Blocks.{envAt}
 use Rattle.typing.specs.declared.cause.Blame.{Blame}
 use Rattle.typing.specs.declared.cause.Blame.the-variants as blame
 use Rattle.typing.specs.declared.table.Found.{Found}

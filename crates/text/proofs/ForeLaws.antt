@@ -17,7 +17,8 @@ use Rattle.typing.specs.Env.{forModule}
 use Rattle.typing.specs.Typing.{typeExpr}
 use Rattle.typing.specs.Typed.{Types}
 use Rattle.typing.specs.Means.{blameOf}
-use Rattle.typing.specs.Table.{afterHead, Past, envAt}
+use Rattle.typing.specs.Table.{afterHead, Past}
+use Rattle.typing.specs.Blocks.{envAt}
 use Rattle.typing.specs.declared.cause.Typed.{Typed}
 use Rattle.typing.specs.declared.cause.Blame.{Blame}
 use Rattle.typing.specs.declared.cause.Blame.the-variants as blame

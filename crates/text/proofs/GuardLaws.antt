@@ -11,7 +11,7 @@ use Rattle.reading.specs.Transition.{readTopExpr}
 use Rattle.typing.specs.Env.{Env, Agree}
 use Rattle.typing.specs.Typing.{typeExpr}
 use Rattle.typing.specs.Means.{blameOf}
-use Rattle.typing.specs.Table.{envAt}
+use Rattle.typing.specs.Blocks.{envAt}
 use Rattle.typing.specs.Typed.{Types}
 use Rattle.typing.specs.declared.ty.Ty.{Ty}
 use Rattle.typing.specs.declared.cause.Blame.{Blame}

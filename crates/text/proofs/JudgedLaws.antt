@@ -10,7 +10,7 @@ use Rattle.reading.specs.Transition.{Transition}
 use Rattle.reading.proofs.Rules.{no}
 use Rattle.typing.specs.Env.{Binding, Agree, forModule, withBindings}
 use Rattle.typing.specs.Patterns.{validateEventPattern}
-use Rattle.typing.specs.Table.{envAt}
+use Rattle.typing.specs.Blocks.{envAt}
 use Rattle.typing.specs.Blames.{Bound, Spares, JudgesPattern}
 use Rattle.typing.specs.declared.cause.Bindings.{Bindings}
 use Rattle.typing.proofs.EnvLaws.{bindings-agree}

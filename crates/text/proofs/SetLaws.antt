@@ -10,7 +10,8 @@ use Rattle.reading.proofs.ExprLaws.{name-laws}
 use Rattle.reading.proofs.TransitionLaws.{assignment-laws, output-expr-laws}
 use Rattle.reading.proofs.Views.{assignment-at}
 use Rattle.typing.specs.Means.{blameOf}
-use Rattle.typing.specs.Table.{afterItem, afterHead, envAt, Past}
+use Rattle.typing.specs.Table.{afterItem, afterHead, Past}
+use Rattle.typing.specs.Blocks.{envAt}
 use Rattle.typing.specs.Typed.{Types}
 use Rattle.typing.specs.Blames.{JudgesOutput}
 use Rattle.typing.specs.declared.cause.Blame.{Blame}

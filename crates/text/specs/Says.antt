@@ -19,7 +19,8 @@ use Rattle.typing.specs.Guards.{contradictoryEqualities}
 use Rattle.typing.specs.Patterns.{validateEventPattern}
 use Rattle.typing.specs.Env.{forModule, Agree}
 use Rattle.typing.specs.Means.{typedOf, outcome, blameOf}
-use Rattle.typing.specs.Table.{afterItem, envAt}
+use Rattle.typing.specs.Table.{afterItem}
+use Rattle.typing.specs.Blocks.{envAt}
 use Rattle.typing.specs.declared.cause.Blame.{Blame}
 use Rattle.typing.specs.declared.cause.Typed.{Typed}
 use Rattle.typing.specs.declared.table.Found.{Found}

@@ -14,7 +14,7 @@ use Rattle.typing.specs.Names.{eqName, called, firstCalled}
 use Rattle.typing.specs.Guards.{Equality, equality, against, judgeEquality, clashes}
 use Rattle.typing.specs.Equalities.{listed, equalities, nameIn, differs, firstClash}
 use Rattle.typing.proofs.NameLaws.{eqName-refl, eqName-eq}
-use Rattle.typing.proofs.EnvLaws.{first-first, first-none}
+use Rattle.typing.proofs.TableLaws.{first-first, first-none}
 
 pub called-append : {A : Type 0} (name : A → Name) (w : Name) (xs ys : List A) → firstCalled name w (xs ++ ys) ≡ firstOf (firstCalled name w xs) (firstCalled name w ys)
 unfolding firstCalled firstOf

@@ -5,8 +5,8 @@ use mathlib.Core.Bool.{Bool, true, false}
 use mathlib.Core.List.{List, [], _∷_, _++_}
 use mathlib.Core.Option.{Option, none, some}
 use native.Mathlib.Omega.{arith}
-use native.Mathlib.Nat.{zero-add, suc-add}
-use lib.ListN.{length, getD, length-append}
+use lib.ListN.{length, getD, take}
+use lib.Seq.{getD-take}
 use lib.Dec.{eqb}
 use Rattle.reading.specs.Read.{Reader, ok, pick}
 use Rattle.reading.specs.Limits.{maxU32, maxList}
@@ -30,10 +30,12 @@ use Rattle.typing.specs.Types.{ExprType, bool, enum, typeToExprType}
 use Rattle.typing.specs.Causes.{firstOf}
 use Rattle.typing.specs.Names.{eqName, member, called, lastCalled}
 use Rattle.typing.specs.Env.{Env, Binding, bindingType, varType, given, enumHas, forModule, withBindings, Agree}
-use Rattle.typing.specs.Table.{placeAfter, afterItem, afterHead, pairsFrom, pairsOf, pairsAt, findFirst, findIn, widthType, caseType, exprTypeAt, memberFrom, memberOf, memberAt, typeFound, variantFound, envAt}
+use Rattle.typing.specs.Table.{placeAfter, afterItem, afterHead, pairsFrom, pairsOf, pairsAt, findFirst, lastIn, widthType, caseType, exprTypeAt, memberFrom, memberOf, memberAt, typeFound, variantFound}
+use Rattle.typing.specs.Blocks.{blockFind, findIn, Keeps, envAt}
 use Rattle.typing.specs.First.{enumName}
 use Rattle.typing.specs.Blames.{Bound, none-bound, more-bound}
 use Rattle.typing.proofs.TableLaws.{pairs-length}
+use Rattle.typing.proofs.BlockLaws.{one-block, two-blocks, block-kept}
 
 -- an entry, and those after it
 pub record Uncons {A : Type 0} (F : Reader A) (s : List ℕ) (c k : ℕ) (l : List A) (n : ℕ) : Type 0 where
@@ -116,8 +118,7 @@ find-cons s w a b T (suc k) =
     let g = getD-pair a b T k in
     rw (g .0, g .1, find-cons s w a b T k, pick-first)
 
-find-pairs : (s : List ℕ) (w : Name) (c k : ℕ) → findIn s w (pairsFrom c s k) ≡ findFirst s w (pairsFrom c s k) c
-unfolding findIn
+find-pairs : (s : List ℕ) (w : Name) (c k : ℕ) → lastIn s w (pairsFrom c s k) ≡ findFirst s w (pairsFrom c s k) c
 find-pairs s w c k =
     let q = pairs-length c s k in
     let h : length (pairsFrom c s k) / 2 ≡ c = omega arith in
@@ -144,7 +145,7 @@ module _ {A B : Type 0} (F : Reader A) (name : A → Name) (value : Option A →
       rw (find-cons s w (afterHead s k) (afterItem s (afterHead s k)) (pairsFrom (length xs) s (afterItem s k)) (length xs), look-first, value-first, g .1, i, g .0)
       (ap (join (value (lastCalled name w xs))) (one (eqName (name x) w) (afterItem s (afterHead s k)) x (g .2)))
 
-  found-last : (at : ℕ) (w : Name) → Gives (λ xs _. look (findIn s w (pairsAt s at)) ≡ value (lastCalled name w xs)) (listOf maxList F s at)
+  found-last : (at : ℕ) (w : Name) → Gives (λ xs _. look (lastIn s w (pairsAt s at)) ≡ value (lastCalled name w xs)) (listOf maxList F s at)
   unfolding pairsAt pairsOf
   found-last at w xs n e =
       let l = list-at F s maxList at xs n e in
@@ -173,7 +174,7 @@ module _ (s : List ℕ) (B : Bytes s) where
       let a : afterItem s (v .name) ≡ v .ty = after-is name-laws s B (v .name) (x .name) (v .ty) (v .name-is) in
       (ap (textAt s) h ∙ name-text s (v .name) (x .name) (v .ty) (v .name-is), after-is var-decl-laws s B k x n e, ap some (ap (λ (z : ℕ). exprTypeAt s (afterItem s z)) h ∙ ap (exprTypeAt s) a ∙ type-is s (v .ty) (x .ty) (v .init) (v .ty-is)))
 
-  pub vars-are : (at : ℕ) (w : Name) → Gives (λ vs _. typeFound s (findIn s w (pairsAt s at)) ≡ varType (lastCalled varName w vs)) (listOf maxList readVarDecl s at)
+  pub vars-are : (at : ℕ) (w : Name) → Gives (λ vs _. typeFound s (lastIn s w (pairsAt s at)) ≡ varType (lastCalled varName w vs)) (listOf maxList readVarDecl s at)
   unfolding typeFound varType
   vars-are = found-last readVarDecl varName varType (typeFound s) firstOf s var-entry refl (type-first s) var-first
 
@@ -203,7 +204,7 @@ module _ (s : List ℕ) (B : Bytes s) where
   holds-first u none b = refl
   holds-first u (some a) b = refl
 
-  enums-hold : (u : Name) (at : ℕ) (w : Name) → Gives (λ es _. holdsAt u (findIn s w (pairsAt s at)) ≡ holds u (lastCalled enumName w es)) (listOf maxList readEnumDecl s at)
+  enums-hold : (u : Name) (at : ℕ) (w : Name) → Gives (λ es _. holdsAt u (lastIn s w (pairsAt s at)) ≡ holds u (lastCalled enumName w es)) (listOf maxList readEnumDecl s at)
   enums-hold u = found-last readEnumDecl enumName (holds u) (holdsAt u) firstOf s (enum-entry u) refl (holds-at-first u) (holds-first u)
 
   abbrev orFalse : Option Bool → Bool
@@ -231,39 +232,16 @@ module _ (s : List ℕ) (B : Bytes s) where
   given-of u (some e) = refl
 
   -- the tables of a module's variables and enums mean what the module declares
-  pub tables-agree : (vars enums : ℕ) (m : Module) (i j : ℕ) → listOf maxList readVarDecl s vars ≡ ok (m .vars) i → listOf maxList readEnumDecl s enums ≡ ok (m .enums) j → Agree (envAt s (pairsAt s vars) (pairsAt s enums)) (forModule m)
+  pub tables-agree : (names known : List ℕ) (vars enums : ℕ) (m : Module) (i j : ℕ) → length names ≡ 829 → length known ≡ 829 → Keeps s (pairsAt s vars) names 0 → Keeps s (pairsAt s enums) known 0 → listOf maxList readVarDecl s vars ≡ ok (m .vars) i → listOf maxList readEnumDecl s enums ≡ ok (m .enums) j → Agree (envAt s names known) (forModule m)
   unfolding envAt forModule firstOf
-  tables-agree vars enums m i j e f = record {
-    names = λ w. vars-are vars w (m .vars) i e;
-    enums = λ w. given-at [] (findIn s w (pairsAt s enums)) ∙ ap given (enums-hold [] enums w (m .enums) j f) ∙ sym (given-of [] (lastCalled enumName w (m .enums)));
-    variants = λ w u. found-or u (findIn s w (pairsAt s enums)) ∙ ap orFalse (enums-hold u enums w (m .enums) j f) ∙ sym (has-or u (lastCalled enumName w (m .enums)));
+  tables-agree names known vars enums m i j k l p q e f = record {
+    names = λ w. ap (typeFound s) (one-block s w names k ∙ p .finds w) ∙ vars-are vars w (m .vars) i e;
+    enums = λ w. ap given (enum-found w) ∙ given-at [] (lastIn s w (pairsAt s enums)) ∙ ap given (enums-hold [] enums w (m .enums) j f) ∙ sym (given-of [] (lastCalled enumName w (m .enums)));
+    variants = λ w u. ap (variantFound s u) (enum-found w) ∙ found-or u (lastIn s w (pairsAt s enums)) ∙ ap orFalse (enums-hold u enums w (m .enums) j f) ∙ sym (has-or u (lastCalled enumName w (m .enums)));
   }
-
-pub first-first : {A : Type 0} (a b c : Option A) → firstOf (firstOf a b) c ≡ firstOf a (firstOf b c)
-unfolding firstOf
-first-first none b c = refl
-first-first (some a) b c = refl
-
-pub first-none : {A : Type 0} (a : Option A) → firstOf a none ≡ a
-unfolding firstOf
-first-none none = refl
-first-none (some a) = refl
-
--- a table after another: its names come first
-find-after : (s : List ℕ) (w : Name) (k m : ℕ) (A B : List ℕ) → length A ≡ 2 * k → findFirst s w (A ++ B) (k + m) ≡ firstOf (findFirst s w B m) (findFirst s w A k)
-unfolding findFirst
-find-after s w zero m [] B q = rw zero-add (sym (first-none (findFirst s w B m)))
-find-after s w zero m (x ∷ A) B q = absurd (omega arith)
-find-after s w (suc k) m [] B q = absurd (omega arith)
-find-after s w (suc k) m (x ∷ []) B q = absurd (omega arith)
-find-after s w (suc k) m (x ∷ (y ∷ A)) B q =
-    let r : length A ≡ 2 * k = omega arith in
-    let t = pick (eqName (textAt s x) w) (some y) none in
-    rw (suc-add k m)
-    (find-cons s w x y (A ++ B) (k + m)
-    ∙ ap (λ (o : Option ℕ). firstOf o t) (find-after s w k m A B r)
-    ∙ first-first (findFirst s w B m) (findFirst s w A k) t
-    ∙ ap (firstOf (findFirst s w B m)) (sym (find-cons s w x y A k)))
+    where
+      enum-found : (w : Name) → findIn s w known ≡ lastIn s w (pairsAt s enums)
+      enum-found w = one-block s w known l ∙ q .finds w
 
 abbrev bindingName : Binding → Name
 bindingName b = b .name
@@ -289,19 +267,28 @@ bound-find {s} w (more-bound {a} {b} {T} {x} {bs} p q r) =
     rw (find-cons s w a b T (length bs), type-first s, binding-first, bound-find w r, p)
     (ap (firstOf (bindingType (lastCalled bindingName w bs))) (bound-one s (eqName (x .name) w) b x q))
 
--- bindings put after a module's variables mean what the pattern binds
-pub bindings-agree : (s names enums T : List ℕ) (k : ℕ) (bs : List Binding) (env : Env) → length names ≡ 2 * k → Bound s T bs → Agree (envAt s names enums) env → (env .bindings ≡ (λ n. none)) → Agree (envAt s (names ++ T) enums) (withBindings bs env)
-unfolding envAt withBindings findIn firstOf
-bindings-agree s names enums T k bs env l b g z = record {
+-- bindings in a block after a module's variables mean what the pattern binds
+pub bindings-agree : (s names enums T pairs : List ℕ) (bs : List Binding) (env : Env) → length names ≡ 829 → length T ≡ 1658 → take 829 T ≡ names → Keeps s pairs T 829 → Bound s pairs bs → Agree (envAt s names enums) env → (env .bindings ≡ (λ n. none)) → Agree (envAt s T enums) (withBindings bs env)
+unfolding envAt withBindings firstOf
+bindings-agree s names enums T pairs bs env l m q p b g z = record {
   names = λ w.
-      let m = bound-length b in
-      let h : length (names ++ T) / 2 ≡ k + length bs = omega (arith, length-append names T) in
-      let i : length names / 2 ≡ k = omega arith in
-      ap (λ (n : ℕ). typeFound s (findFirst s w (names ++ T) n)) h
-      ∙ ap (typeFound s) (find-after s w k (length bs) names T l)
-      ∙ type-first s (findFirst s w T (length bs)) (findFirst s w names k)
-      ∙ ap (λ (o : Option ExprType). firstOf o (typeFound s (findFirst s w names k))) (bound-find w b)
-      ∙ ap (firstOf (bindingType (lastCalled bindingName w bs))) (sym (ap (λ (n : ℕ). typeFound s (findFirst s w names n)) i) ∙ g .names w ∙ ap (λ (f : Name → Option ExprType). firstOf (f w) (env .vars w)) z);
+      let c = bound-length b in
+      let h : length pairs / 2 ≡ length bs = omega arith in
+      let v = block-kept s w T names 0 (λ j a. ap (λ (y : List ℕ). getD y j 0) (sym q) ∙ getD-take 829 T j 0 (omega arith)) in
+      ap (typeFound s) (two-blocks s w T m)
+      ∙ type-first s (blockFind s w T 829) (blockFind s w T 0)
+      ∙ ap (λ (o : Option ℕ). firstOf (typeFound s o) (typeFound s (blockFind s w T 0))) (p .finds w ∙ ap (findFirst s w pairs) h)
+      ∙ ap (λ (o : Option ExprType). firstOf o (typeFound s (blockFind s w T 0))) (bound-find w b)
+      ∙ ap (firstOf (bindingType (lastCalled bindingName w bs))) (ap (typeFound s) (sym (one-block s w names l ∙ v)) ∙ g .names w ∙ ap (λ (f : Name → Option ExprType). firstOf (f w) (env .vars w)) z);
+  enums = g .enums;
+  variants = g .variants;
+}
+
+-- no bindings change nothing
+pub unbound-agree : (s names enums : List ℕ) (bs : List Binding) (env : Env) → Bound s [] bs → Agree (envAt s names enums) env → (env .bindings ≡ (λ n. none)) → Agree (envAt s names enums) (withBindings bs env)
+unfolding withBindings lastCalled bindingType firstOf
+unbound-agree s names enums [] env none-bound g z = record {
+  names = λ w. g .names w ∙ ap (λ (f : Name → Option ExprType). firstOf (f w) (env .vars w)) z;
   enums = g .enums;
   variants = g .variants;
 }

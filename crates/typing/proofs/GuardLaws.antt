@@ -37,7 +37,7 @@ use Rattle.typing.specs.declared.equality.Equality.{Equality}
 use Rattle.typing.specs.declared.equality.Equality.the-variants.{Nothing, Is}
 use Rattle.typing.specs.declared.equality.Conjunct.{Conjunct}
 use Rattle.typing.specs.declared.equality.Conjunct.the-variants.{And, One}
-use Rattle.typing.proofs.EnvLaws.{first-none}
+use Rattle.typing.proofs.TableLaws.{first-none}
 use Rattle.typing.proofs.ClashLaws.{clash-append, clashes-are}
 use Rattle.typing.proofs.EqualityLaws.{deep-enough, stands, was-and, was-one}
 

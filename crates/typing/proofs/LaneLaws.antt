@@ -18,7 +18,7 @@ use Rattle.reading.specs.Skip.{textAt}
 use Rattle.reading.proofs.Rules.{by}
 use Rattle.typing.specs.Names.{eqName}
 use Rattle.typing.specs.Table.{findFirst}
-use Rattle.typing.specs.Lanes.{print, laneOf, Lanes, Laned}
+use Rattle.typing.specs.Lanes.{print, laneOf, Woven, Lanes, Laned}
 use Rattle.typing.proofs.NameLaws.{eqName-eq}
 use Rattle.typing.proofs.TableLaws.{find-miss, find-kept}
 
@@ -33,41 +33,99 @@ module _ (a : List ℕ) (h i p : ℕ) (e : print p (drop i a) ≡ print h a) whe
   print-done l = rw (drop-of-length-le a l) at e
 
 -- before the first pair, all lanes are empty
-pub no-lanes : (s table links : List ℕ) → Lanes s table 0 (replicate 1024 0) links
-no-lanes s table links = record {
-  heads-size = length-replicate {A = ℕ} 1024 0;
-  table-room = omega arith;
-  links-room = omega arith;
-  head-low = λ h m. let g = all h m in omega arith;
-  head-on = λ h m x. let g = all h m in absurd (omega arith);
+pub woven-none : {c : ℕ} {lane head link : ℕ → ℕ} → ((h : ℕ) → h < c → head h ≡ 0) → Woven c lane 0 head link
+woven-none g = record {
+  head-low = λ h m. let z = g h m in omega arith;
+  head-on = λ h m x. let z = g h m in absurd (omega arith);
   head-last = λ h j m n x y. absurd (omega arith);
   link-low = λ i m. absurd (omega arith);
   link-on = λ i m x. absurd (omega arith);
   link-last = λ i j m n x y. absurd (omega arith);
 }
-  where
-    all : (h : ℕ) → h < 1024 → _≡_ {A = ℕ} (getD (replicate 1024 0) h 0) 0
-    all h m = getD-replicate {A = ℕ} 1024 h 0 0 m
 
--- the lanes of the first k pairs depend on their names alone
+module _ {c : ℕ} {lane : ℕ → ℕ} {k : ℕ} {head link : ℕ → ℕ} (w : Woven c lane k head link) where
+  -- the first k pairs decide
+  pub woven-kept : {lane′ head′ link′ : ℕ → ℕ} → ((j : ℕ) → j < k → lane′ j ≡ lane j) → ((h : ℕ) → h < c → head′ h ≡ head h) → ((i : ℕ) → i < k → link′ i ≡ link i) → Woven c lane′ k head′ link′
+  woven-kept {lane′} {head′} {link′} g a b = record {
+    head-low = λ h m. let z = w .head-low h m in let y = a h m in omega arith;
+    head-on = λ h m x.
+        let y = a h m in
+        let z = w .head-low h m in
+        ap (λ (p : ℕ). lane′ (p - 1)) y ∙ g (head h - 1) (omega arith) ∙ w .head-on h m (omega arith);
+    head-last = λ h j m n x y. let z = a h m in w .head-last h j m n (omega arith) (sym (g j n) ∙ y);
+    link-low = λ i m. let z = w .link-low i m in let y = b i m in omega arith;
+    link-on = λ i m x.
+        let y = b i m in
+        let z = w .link-low i m in
+        ap (λ (p : ℕ). lane′ (p - 1)) y ∙ g (link i - 1) (omega arith) ∙ w .link-on i m (omega arith) ∙ sym (g i m);
+    link-last = λ i j m n x y. let z = b i m in w .link-last i j m n (omega arith) (sym (g j (omega arith)) ∙ y ∙ g i m);
+  }
+
+  -- pair k is put before those of its lane
+  pub woven-more : {head′ link′ : ℕ → ℕ} → lane k < c → head′ (lane k) ≡ k + 1 → ((h : ℕ) → h < c → h ≢ lane k → head′ h ≡ head h) → link′ k ≡ head (lane k) → ((i : ℕ) → i < k → link′ i ≡ link i) → Woven c lane (k + 1) head′ link′
+  woven-more {head′} {link′} small head-new head-old link-new link-old = record {
+    head-low = λ h m. low-at h m (ℕ-discrete h (lane k));
+    head-on = λ h m. on-at h m (ℕ-discrete h (lane k));
+    head-last = λ h j m n. last-at h j m n (ℕ-discrete h (lane k)) (ℕ-discrete j k);
+    link-low = λ i m. link-low-at i m (ℕ-discrete i k);
+    link-on = λ i m. link-on-at i m (ℕ-discrete i k);
+    link-last = λ i j m n. link-last-at i j m n (ℕ-discrete i k);
+  }
+    where
+      head-at : {h : ℕ} → h ≡ lane k → head′ h ≡ k + 1
+      head-at e = ap head′ e ∙ head-new
+
+      link-at : {i : ℕ} → i ≡ k → link′ i ≡ head (lane k)
+      link-at e = ap link′ e ∙ link-new
+
+      low-at : (h : ℕ) → h < c → Dec (h ≡ lane k) → head′ h ≤ k + 1
+      low-at h m (yes e) = let u = head-at e in omega arith
+      low-at h m (no d) = rw (head-old h m d) (let z = w .head-low h m in omega arith)
+
+      on-at : (h : ℕ) → h < c → Dec (h ≡ lane k) → 0 < head′ h → lane (head′ h - 1) ≡ h
+      on-at h m (yes e) x = let u = head-at e in let v : head′ h - 1 ≡ k = omega arith in ap lane v ∙ sym e
+      on-at h m (no d) x = rw (head-old h m d) (w .head-on h m (rw (head-old h m d) at x))
+
+      last-at : (h j : ℕ) → h < c → j < k + 1 → Dec (h ≡ lane k) → Dec (j ≡ k) → head′ h ≤ j → lane j ≡ h → ⊥
+      last-at h j m n (yes e) q y z = let u = head-at e in omega arith
+      last-at h j m n (no d) (yes q) y z = d (sym z ∙ ap lane q)
+      last-at h j m n (no d) (no q) y z = w .head-last h j m (omega arith) (rw (head-old h m d) at y) z
+
+      older : {i : ℕ} → i < k + 1 → i ≢ k → i < k
+      older m d = omega arith
+
+      link-low-at : (i : ℕ) → i < k + 1 → Dec (i ≡ k) → link′ i ≤ i
+      link-low-at i m (yes e) = let u = link-at e in let z = w .head-low (lane k) small in omega arith
+      link-low-at i m (no d) = rw (link-old i (older m d)) (w .link-low i (older m d))
+
+      link-on-at : (i : ℕ) → i < k + 1 → Dec (i ≡ k) → 0 < link′ i → lane (link′ i - 1) ≡ lane i
+      link-on-at i m (yes e) x =
+          let u = link-at e in
+          ap (λ (j : ℕ). lane (j - 1)) u ∙ w .head-on (lane k) small (omega arith) ∙ ap lane (sym e)
+      link-on-at i m (no d) x = ap (λ (j : ℕ). lane (j - 1)) (link-old i (older m d)) ∙ w .link-on i (older m d) (rw (link-old i (older m d)) at x)
+
+      link-last-at : (i j : ℕ) → i < k + 1 → j < i → Dec (i ≡ k) → link′ i ≤ j → lane j ≡ lane i → ⊥
+      link-last-at i j m n (yes e) y z = let u = link-at e in w .head-last (lane k) j small (omega arith) (omega arith) (z ∙ ap lane e)
+      link-last-at i j m n (no d) y z = w .link-last i j (older m d) n (rw (link-old i (older m d)) at y) z
+
+-- the same by two lists
+pub no-lanes : (s table links : List ℕ) → Lanes s table 0 (replicate 1024 0) links
+no-lanes s table links = record {
+  heads-size = length-replicate {A = ℕ} 1024 0;
+  table-room = omega arith;
+  links-room = omega arith;
+  woven = woven-none (λ h m. getD-replicate {A = ℕ} 1024 h 0 0 m);
+}
+
 module _ {s table table′ : List ℕ} {k : ℕ} {heads links : List ℕ} where
   pub lanes-kept : Lanes s table k heads links → length table ≡ length table′ → ((j : ℕ) → j < k → getD table′ (2 * j) 0 ≡ getD table (2 * j) 0) → Lanes s table′ k heads links
   lanes-kept w l g = record {
     heads-size = w .heads-size;
     table-room = let z = w .table-room in omega arith;
     links-room = w .links-room;
-    head-low = w .head-low;
-    head-on = λ h m x. lane (getD heads h 0 - 1) (let z = w .head-low h m in omega arith) ∙ w .head-on h m x;
-    head-last = λ h j m n x y. w .head-last h j m n x (sym (lane j n) ∙ y);
-    link-low = w .link-low;
-    link-on = λ i m x. lane (getD links i 0 - 1) (let z = w .link-low i m in omega arith) ∙ w .link-on i m x ∙ sym (lane i m);
-    link-last = λ i j m n x y. w .link-last i j m n x (sym (lane j (omega arith)) ∙ y ∙ lane i m);
+    woven = woven-kept (w .woven) (λ j m. ap (λ (a : ℕ). print 0 (textAt s a) % 1024) (g j m)) (λ h m. refl) (λ i m. refl);
   }
-    where
-      lane : (j : ℕ) → j < k → laneOf s table′ j ≡ laneOf s table j
-      lane j m = ap (λ (a : ℕ). print 0 (textAt s a) % 1024) (g j m)
 
--- pair k is put before those of its lane
 module _ (s table : List ℕ) {k : ℕ} {heads links : List ℕ} (w : Lanes s table k heads links) where
   pub lane-room : {h : ℕ} → h < 1024 → h < length heads
   lane-room m = let z = w .heads-size in omega arith
@@ -78,12 +136,12 @@ module _ (s table : List ℕ) {k : ℕ} {heads links : List ℕ} (w : Lanes s ta
       heads-size = length-set heads c (k + 1) ∙ w .heads-size;
       table-room = omega arith;
       links-room = let z = length-set links k (getD heads c 0) in omega arith;
-      head-low = λ h m. low-at h m (ℕ-discrete h c);
-      head-on = λ h m. on-at h m (ℕ-discrete h c);
-      head-last = λ h j m n. last-at h j m n (ℕ-discrete h c) (ℕ-discrete j k);
-      link-low = λ i m. link-low-at i m (ℕ-discrete i k);
-      link-on = λ i m. link-on-at i m (ℕ-discrete i k);
-      link-last = λ i j m n. link-last-at i j m n (ℕ-discrete i k);
+      woven =
+          woven-more (w .woven) c-small
+          (getD-set-same heads c (k + 1) 0 (lane-room c-small))
+          (λ h m d. getD-set-other heads c h (k + 1) 0 d)
+          (getD-set-same links k (getD heads c 0) 0 more)
+          (λ i m. getD-set-other links k i (getD heads c 0) 0 (λ (e : i ≡ k). omega arith));
     }
       where
         c : ℕ
@@ -91,51 +149,6 @@ module _ (s table : List ℕ) {k : ℕ} {heads links : List ℕ} (w : Lanes s ta
 
         c-small : c < 1024
         c-small = omega arith
-
-        head-new : getD (set heads c (k + 1)) c 0 ≡ k + 1
-        head-new = getD-set-same heads c (k + 1) 0 (lane-room c-small)
-
-        link-new : getD (set links k (getD heads c 0)) k 0 ≡ getD heads c 0
-        link-new = getD-set-same links k (getD heads c 0) 0 more
-
-        head-old : (h : ℕ) → h ≢ c → getD (set heads c (k + 1)) h 0 ≡ getD heads h 0
-        head-old h d = getD-set-other heads c h (k + 1) 0 d
-
-        link-old : (i : ℕ) → i ≢ k → getD (set links k (getD heads c 0)) i 0 ≡ getD links i 0
-        link-old i d = getD-set-other links k i (getD heads c 0) 0 d
-
-        head-at : {h : ℕ} → h ≡ c → getD (set heads c (k + 1)) h 0 ≡ k + 1
-        head-at e = ap (λ (h : ℕ). getD (set heads c (k + 1)) h 0) e ∙ head-new
-
-        link-at : {i : ℕ} → i ≡ k → getD (set links k (getD heads c 0)) i 0 ≡ getD heads c 0
-        link-at e = ap (λ (i : ℕ). getD (set links k (getD heads c 0)) i 0) e ∙ link-new
-
-        low-at : (h : ℕ) → h < 1024 → Dec (h ≡ c) → getD (set heads c (k + 1)) h 0 ≤ k + 1
-        low-at h m (yes e) = let u = head-at e in omega arith
-        low-at h m (no d) = rw (head-old h d) (let z = w .head-low h m in omega arith)
-
-        on-at : (h : ℕ) → h < 1024 → Dec (h ≡ c) → 0 < getD (set heads c (k + 1)) h 0 → laneOf s table (getD (set heads c (k + 1)) h 0 - 1) ≡ h
-        on-at h m (yes e) x = let u = head-at e in let v : getD (set heads c (k + 1)) h 0 - 1 ≡ k = omega arith in ap (laneOf s table) v ∙ sym e
-        on-at h m (no d) x = rw (head-old h d) (w .head-on h m (rw (head-old h d) at x))
-
-        last-at : (h j : ℕ) → h < 1024 → j < k + 1 → Dec (h ≡ c) → Dec (j ≡ k) → getD (set heads c (k + 1)) h 0 ≤ j → laneOf s table j ≡ h → ⊥
-        last-at h j m n (yes e) q y z = let u = head-at e in omega arith
-        last-at h j m n (no d) (yes q) y z = d (sym z ∙ ap (laneOf s table) q)
-        last-at h j m n (no d) (no q) y z = w .head-last h j m (omega arith) (rw (head-old h d) at y) z
-
-        link-low-at : (i : ℕ) → i < k + 1 → Dec (i ≡ k) → getD (set links k (getD heads c 0)) i 0 ≤ i
-        link-low-at i m (yes e) = let u = link-at e in let z = w .head-low c c-small in omega arith
-        link-low-at i m (no d) = rw (link-old i d) (w .link-low i (omega arith))
-
-        link-on-at : (i : ℕ) → i < k + 1 → Dec (i ≡ k) → 0 < getD (set links k (getD heads c 0)) i 0 → laneOf s table (getD (set links k (getD heads c 0)) i 0 - 1) ≡ laneOf s table i
-        link-on-at i m (yes e) x =
-            let u = link-at e in
-            ap (λ (j : ℕ). laneOf s table (j - 1)) u ∙ w .head-on c c-small (omega arith) ∙ ap (laneOf s table) (sym e)
-        link-on-at i m (no d) x = ap (λ (j : ℕ). laneOf s table (j - 1)) (link-old i d) ∙ w .link-on i (omega arith) (rw (link-old i d) at x)
-
-        link-last-at : (i j : ℕ) → i < k + 1 → j < i → Dec (i ≡ k) → getD (set links k (getD heads c 0)) i 0 ≤ j → laneOf s table j ≡ laneOf s table i → ⊥
-        link-last-at i j m n (yes e) y z = let u = link-at e in w .head-last c j c-small (omega arith) (omega arith) (z ∙ ap (laneOf s table) e)
-        link-last-at i j m n (no d) y z = w .link-last i j (omega arith) n (rw (link-old i d) at y) z
 
     pub lanes-more : {key : Name} {h : ℕ} → key ≡ textAt s (getD table (2 * k) 0) → h ≡ print 0 key % 1024 → Lanes s table (k + 1) (set heads h (k + 1)) (set links k (getD heads h 0))
     lanes-more t e = rw (e, t) lanes-with
@@ -179,17 +192,17 @@ module _ {n : ℕ} {s table : List ℕ} {k : ℕ} {heads links : List ℕ} (r : 
   pair-found w = rw (add-one k, pair-name, pair-value, find-kept s w table (put table k a v) k (words-kept table k a v))
 
 -- names of other lanes differ
-pub lane-apart : (x n : Name) → (print 0 x % 1024 ≡ print 0 n % 1024 → ⊥) → eqName x n ≡ false
-lane-apart x n h = by (eqName x n) (λ q. absurd (h (ap (λ (y : Name). print 0 y % 1024) (eqName-eq x n q)))) (λ q. q)
+pub lane-apart : (c : ℕ) (x n : Name) → (print 0 x % c ≡ print 0 n % c → ⊥) → eqName x n ≡ false
+lane-apart c x n h = by (eqName x n) (λ q. absurd (h (ap (λ (y : Name). print 0 y % c) (eqName-eq x n q)))) (λ q. q)
 
-module _ (s table : List ℕ) (n : Name) (p : ℕ) where
-  find-past : (k : ℕ) → p ≤ k → ((j : ℕ) → p ≤ j → j < k → laneOf s table j ≡ print 0 n % 1024 → ⊥) → findFirst s n table p ≡ findFirst s n table k
+module _ (c : ℕ) (s table : List ℕ) (n : Name) (p : ℕ) where
+  pub find-past : (k : ℕ) → p ≤ k → ((j : ℕ) → p ≤ j → j < k → print 0 (textAt s (getD table (2 * j) 0)) % c ≡ print 0 n % c → ⊥) → findFirst s n table p ≡ findFirst s n table k
   unfolding findFirst pick
   find-past zero h f = let z : p ≡ 0 = omega arith in ap (findFirst s n table) z
   find-past (suc k) h f =
       by (ltb k p) (λ q. let l = ltb-true k p q in let z : p ≡ suc k = omega arith in ap (findFirst s n table) z) (λ q.
       let l = ltb-false k p q in
-      rw (lane-apart (textAt s (getD table (2 * k) 0)) n (f k l (omega arith))) (find-past k l (λ j a b. f j a (omega arith))))
+      rw (lane-apart c (textAt s (getD table (2 * k) 0)) n (f k l (omega arith))) (find-past k l (λ j a b. f j a (omega arith))))
 
 -- the walk for a name has come to pair p - 1, which is on its lane, and no later one of the first k has the name
 pub record Walking (s table : List ℕ) (k : ℕ) (links : List ℕ) (n : Name) (p : ℕ) : Type 0 where
@@ -204,22 +217,22 @@ module _ (s table : List ℕ) {k : ℕ} {heads links : List ℕ} (w : Lanes s ta
   walk-at {p} {m} l h o f r =
       let y = w .table-room in
       let z = w .links-room in
-      record { low = omega arith; table-room = omega arith; links-room = omega arith; on = o; rest = find-past s table n p m l f ∙ r }
+      record { low = omega arith; table-room = omega arith; links-room = omega arith; on = o; rest = find-past 1024 s table n p m l f ∙ r }
 
   pub walk-start : {h : ℕ} → h ≡ print 0 n % 1024 → Walking s table k links n (getD heads h 0)
   walk-start {h} e =
       let m : h < 1024 = omega arith in
-      walk-at (w .head-low h m) (omega arith) (λ x. w .head-on h m x ∙ e) (λ j a b q. w .head-last h j m b a (q ∙ sym e)) refl
+      walk-at (w .woven .head-low h m) (omega arith) (λ x. w .woven .head-on h m x ∙ e) (λ j a b q. w .woven .head-last h j m b a (q ∙ sym e)) refl
 
   module _ {p : ℕ} (g : Walking s table k links n p) (h : 0 < p) where
     before : p - 1 < k
     before = let y = g .low in omega arith
 
     pub walk-less : getD links (p - 1) 0 < p
-    walk-less = let z = w .link-low (p - 1) before in omega arith
+    walk-less = let z = w .woven .link-low (p - 1) before in omega arith
 
     pub walk-more : {b : Bool} {key : Name} → b ≡ eqName key n → key ≡ textAt s (getD table (2 * (p - 1)) 0) → b ≡ false → Walking s table k links n (getD links (p - 1) 0)
     walk-more e t q =
         let m = before in
         let o = g .on h in
-        walk-at (w .link-low (p - 1) m) (omega arith) (λ x. w .link-on (p - 1) m x ∙ o) (λ j a b r. w .link-last (p - 1) j m b a (r ∙ sym o)) (find-miss s n table p (g .rest) h e t q)
+        walk-at (w .woven .link-low (p - 1) m) (omega arith) (λ x. w .woven .link-on (p - 1) m x ∙ o) (λ j a b r. w .woven .link-last (p - 1) j m b a (r ∙ sym o)) (find-miss s n table p (g .rest) h e t q)

@@ -7,6 +7,7 @@ pub mod QuickLaws
 pub mod ShortLaws
 pub mod TableLaws
 pub mod LaneLaws
+pub mod BlockLaws
 pub mod PathLaws
 pub mod TypeLaws
 pub mod ShapeLaws

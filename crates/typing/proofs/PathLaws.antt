@@ -36,7 +36,8 @@ use Rattle.typing.specs.Env.{given, stateVariants}
 use Rattle.typing.specs.Typing.{resolveState, orState, resolveName, resolveVariant, resolvePath}
 use Rattle.typing.specs.Means.{good, tyOf, causeOf, typedOf, outcome}
 use Rattle.typing.specs.Tells.{Ends}
-use Rattle.typing.specs.Table.{placeAfter, afterItem, Past, findIn, found, widthType, exprTypeAt, memberAt, typeFound, variantFound, envAt}
+use Rattle.typing.specs.Table.{placeAfter, afterItem, Past, found, widthType, exprTypeAt, memberAt, typeFound, variantFound}
+use Rattle.typing.specs.Blocks.{findIn, envAt}
 use Rattle.typing.specs.Typed.{Resolves}
 use Rattle.typing.specs.declared.ty.Ty.{Ty}
 use Rattle.typing.specs.declared.ty.Ty.the-variants as ty

@@ -28,9 +28,10 @@ use Rattle.reading.proofs.Rules.{no}
 use Rattle.reading.proofs.Answers.{num, out}
 use Rattle.reading.proofs.ItemLaws.{number-kind}
 use Rattle.typing.specs.Names.{eqName}
+use Rattle.typing.specs.Causes.{firstOf}
 use Rattle.typing.specs.Means.{tyOf}
 use Rattle.typing.specs.Env.{given}
-use Rattle.typing.specs.Table.{placeAfter, afterItem, afterHead, pairsFrom, pairsOf, pairsAt, Filled, Ended, Differs, findFirst, findIn, found, widthType, caseType, exprTypeAt, memberFrom, memberOf, memberAt}
+use Rattle.typing.specs.Table.{placeAfter, afterItem, afterHead, pairsFrom, pairsOf, pairsAt, Filled, Ended, Differs, findFirst, found, widthType, caseType, exprTypeAt, memberFrom, memberOf, memberAt}
 use Rattle.typing.specs.Entries.{opened}
 use Rattle.typing.specs.declared.entries.Entries.{Entries}
 use Rattle.typing.specs.declared.ty.Ty.{Ty}
@@ -72,6 +73,28 @@ pub after-out : (m : Read (Unit {0})) {r : Step} {f : Fault} {p : ℕ} → r ≡
 unfolding stands placeAfter
 after-out (ok a n) e q = no (cc)
 after-out (refused f p) e q = cc
+
+-- the first of some that has something
+pub first-first : {A : Type 0} (a b c : Option A) → firstOf (firstOf a b) c ≡ firstOf a (firstOf b c)
+unfolding firstOf
+first-first none b c = refl
+first-first (some a) b c = refl
+
+pub first-none : {A : Type 0} (a : Option A) → firstOf a none ≡ a
+unfolding firstOf
+first-none none = refl
+first-none (some a) = refl
+
+-- of two, by the code's answer for the first
+pub first-hit : {f : Found} {place : ℕ} (y z : Option ℕ) → f ≡ found y → f ≡ At place → f ≡ found (firstOf y z)
+unfolding found firstOf
+first-hit none z e q = no (cc)
+first-hit (some a) z e q = e
+
+pub first-miss : {f : Found} (y z : Option ℕ) → f ≡ found y → f ≡ Nothing → z ≡ firstOf y z
+unfolding found firstOf
+first-miss none z e q = refl
+first-miss (some a) z e q = no (cc)
 
 -- o stands under a name in the first i pairs of a table, from the last of them on
 module _ (s : List ℕ) (n : Name) (table : List ℕ) (i : ℕ) {o : Option ℕ} (r : findFirst s n table i ≡ o) where
@@ -116,10 +139,6 @@ pub given-pick : (b : Bool) (k : ℕ) (o : Option ℕ) → given (pick b (some k
 unfolding given pick
 given-pick true k o = refl
 given-pick false k o = refl
-
-pub find-all : (s : List ℕ) (n : Name) (table : List ℕ) → findFirst s n table (length table / 2) ≡ findIn s n table
-unfolding findIn
-find-all s n table = refl
 
 -- a list of names, from place k on
 module _ (s : List ℕ) (at : ℕ) (n : Name) where

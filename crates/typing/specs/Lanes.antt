@@ -15,17 +15,21 @@ print h (b ∷ bs) = print ((h * 16777619 + b) % 2 ^ 32) bs
 abbrev pub laneOf : List ℕ → List ℕ → ℕ → ℕ
 laneOf s table j = print 0 (textAt s (getD table (2 * j) 0)) % 1024
 
--- the first k pairs are on their lanes
+-- the first k pairs are on their lanes, of which there are c: head and link say where each lane starts and how it goes on
+pub record Woven (c : ℕ) (lane : ℕ → ℕ) (k : ℕ) (head link : ℕ → ℕ) : Type 0 where
+  pub head-low : (h : ℕ) → h < c → head h ≤ k
+  pub head-on : (h : ℕ) → h < c → 0 < head h → lane (head h - 1) ≡ h
+  pub head-last : (h j : ℕ) → h < c → j < k → head h ≤ j → lane j ≡ h → ⊥
+  pub link-low : (i : ℕ) → i < k → link i ≤ i
+  pub link-on : (i : ℕ) → i < k → 0 < link i → lane (link i - 1) ≡ lane i
+  pub link-last : (i j : ℕ) → i < k → j < i → link i ≤ j → lane j ≡ lane i → ⊥
+
+-- the same by two lists
 pub record Lanes (s table : List ℕ) (k : ℕ) (heads links : List ℕ) : Type 0 where
   pub heads-size : length heads ≡ 1024
   pub table-room : 2 * k ≤ length table
   pub links-room : k ≤ length links
-  pub head-low : (h : ℕ) → h < 1024 → getD heads h 0 ≤ k
-  pub head-on : (h : ℕ) → h < 1024 → 0 < getD heads h 0 → laneOf s table (getD heads h 0 - 1) ≡ h
-  pub head-last : (h j : ℕ) → h < 1024 → j < k → getD heads h 0 ≤ j → laneOf s table j ≡ h → ⊥
-  pub link-low : (i : ℕ) → i < k → getD links i 0 ≤ i
-  pub link-on : (i : ℕ) → i < k → 0 < getD links i 0 → laneOf s table (getD links i 0 - 1) ≡ laneOf s table i
-  pub link-last : (i j : ℕ) → i < k → j < i → getD links i 0 ≤ j → laneOf s table j ≡ laneOf s table i → ⊥
+  pub woven : Woven 1024 (laneOf s table) k (λ h. getD heads h 0) (λ i. getD links i 0)
 
 -- a table of n pairs, the first k of them on their lanes
 pub record Laned (n : ℕ) (s table : List ℕ) (k : ℕ) (heads links : List ℕ) : Type 0 where

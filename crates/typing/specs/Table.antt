@@ -17,7 +17,6 @@ use Rattle.reading.specs.Skip.{skipItems, textAt}
 use Rattle.reading.specs.declared.item.Tag.{Tag}
 use Rattle.typing.specs.Types.{ExprType, bool, bit, enum}
 use Rattle.typing.specs.Names.{eqName}
-use Rattle.typing.specs.Env.{Env, given}
 use Rattle.typing.specs.declared.table.Found.{Found}
 use Rattle.typing.specs.declared.table.Found.the-variants.{At, Nothing}
 
@@ -81,8 +80,9 @@ findFirst s n table zero = none
 findFirst s n table (suc k) =
     pick (eqName (textAt s (getD table (2 * k) 0)) n) (some (getD table (2 * k + 1) 0)) (findFirst s n table k)
 
-unfoldable pub findIn : List ℕ → Name → List ℕ → Option ℕ
-findIn s n table = findFirst s n table (length table / 2)
+-- in all pairs of a list
+abbrev pub lastIn : List ℕ → Name → List ℕ → Option ℕ
+lastIn s n pairs = findFirst s n pairs (length pairs / 2)
 
 unfoldable pub found : Option ℕ → Found
 found none = Nothing
@@ -122,12 +122,3 @@ typeFound s (some at) = some (exprTypeAt s at)
 unfoldable pub variantFound : List ℕ → Name → Option ℕ → Bool
 variantFound s n none = false
 variantFound s n (some at) = memberAt s at n
-
--- what names mean by two tables: names with their types, bindings after variables; enums with their variants
-unfoldable pub envAt : List ℕ → List ℕ → List ℕ → Env
-envAt s names enums = record {
-  bindings = λ n. none;
-  vars = λ n. typeFound s (findIn s n names);
-  enums = λ n. given (findIn s n enums);
-  variants = λ e n. variantFound s n (findIn s e enums);
-}

@@ -9,7 +9,7 @@ use crate::rules::Fit;
 use crate::table::after;
 use crate::table::after_case;
 use crate::table::ty_at;
-ghost use Rattle.typing.specs.Table.{envAt};
+ghost use Rattle.typing.specs.Blocks.{envAt};
 ghost use Rattle.typing.specs.Arguments.{AcceptsTyped, AcceptsArg};
 ghost use Rattle.typing.specs.Emits.{JudgesArg, JudgesArgs};
 

@@ -16,7 +16,7 @@ use reading::Cursor;
 use reading::Tagged;
 ghost use Rattle.reading.specs.Expr.{readExpr};
 ghost use Rattle.typing.specs.Tells.{Ends};
-ghost use Rattle.typing.specs.Table.{envAt};
+ghost use Rattle.typing.specs.Blocks.{envAt};
 ghost use Rattle.typing.specs.Typed.{Types, TypesUnary, TypesBinary};
 
 // The place after the expression at a place.

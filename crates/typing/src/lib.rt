@@ -3,6 +3,7 @@
 // `specs/` says what is right, over the document's content; `proofs/` says why the code gives it.
 mod args;
 mod binds;
+mod block;
 mod cause;
 mod entries;
 mod equality;
@@ -31,6 +32,9 @@ mod version;
 
 pub use args::arg_compatible;
 pub use binds::null_at;
+pub use block::fill_block;
+pub use block::find;
+pub use block::weave;
 pub use cause::Bindings;
 pub use cause::Blame;
 pub use cause::Cause;
@@ -70,7 +74,6 @@ pub use rules::compatible_with;
 pub use rules::unary_type;
 pub use table::Found;
 pub use table::after;
-pub use table::find;
 pub use table::has_name;
 pub use temporal::type_formula;
 pub use ty::Bits;

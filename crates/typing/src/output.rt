@@ -13,7 +13,7 @@ use crate::first::first_variants;
 use crate::table::Found;
 use crate::table::after;
 use reading::text_at;
-ghost use Rattle.typing.specs.Table.{envAt};
+ghost use Rattle.typing.specs.Blocks.{envAt};
 ghost use Rattle.typing.specs.Emits.{OnlyVariant, NamesVariant, JudgesVariant, JudgesName, JudgesGroup};
 ghost use Rattle.typing.specs.Blames.{JudgesOutput};
 

@@ -1,11 +1,11 @@
 // What a path means: its type, or the cause.
+use crate::block::find;
 use crate::cause::Cause;
 use crate::cause::Typed;
 use crate::names::same;
 use crate::table::Found;
 use crate::table::after;
 use crate::table::after_any;
-use crate::table::find;
 use crate::table::has_name;
 use crate::ty::Ty;
 use reading::Answer;
@@ -23,7 +23,8 @@ ghost use Rattle.typing.specs.Typing.{resolveState, resolveName, resolve
 ghost use Rattle.typing.specs.Means.{good, typedOf, outcome};
 ghost use Rattle.typing.specs.Tells.{Ends};
 ghost use Rattle.typing.specs.Typed.{Resolves};
-ghost use Rattle.typing.specs.Table.{afterItem, widthType, exprTypeAt, envAt};
+ghost use Rattle.typing.specs.Table.{afterItem, widthType, exprTypeAt};
+ghost use Rattle.typing.specs.Blocks.{envAt};
 
 // Whether a name is a variant of the last enum called State.
 pub(crate) fn state_variant<'a>(doc: &'a [u8], enums: &'a [usize], name: &'a [u8]) -> bool

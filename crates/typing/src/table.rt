@@ -1,4 +1,4 @@
-// Tables of places, made once for a module: names and what is declared under each, as pairs of places.
+// Where items end, and what stands at a place: a type, or a list of names.
 use crate::entries::entries_at;
 use crate::names::same;
 use crate::ty::Ty;
@@ -11,7 +11,7 @@ ghost use mathlib.Core.Path.{_≡_};
 ghost use Rattle.reading.specs.Item.{readNumber};
 ghost use Rattle.reading.specs.Limits.{maxU32};
 ghost use Rattle.typing.specs.Means.{tyOf};
-ghost use Rattle.typing.specs.Table.{Past, Stops, Differs, findIn, found, widthType, exprTypeAt, memberAt};
+ghost use Rattle.typing.specs.Table.{Past, Stops, Differs, widthType, exprTypeAt, memberAt};
 
 // What stands under a name: its place.
 pub enum Found {
@@ -101,21 +101,6 @@ pub(crate) fn after_case(doc: &[u8], at: usize) -> usize
         Found::At(end) => end,
         Found::Nothing => after_any(doc, at),
     }
-}
-
-// What stands under a name in a table: the last.
-pub fn find<'a>(doc: &'a [u8], table: &'a [usize], name: &'a [u8]) -> Found
-    ensures { λ r. ⌜ r ≡ found (findIn (now (doc .entry)) (now (name .entry)) (now (table .entry))) ⌝ }
-{
-    let mut i = table.len() / 2;
-    while 0 < i {
-        i -= 1;
-        let key = table[2 * i];
-        if same(text_at(doc, key), name) {
-            return Found::At(table[2 * i + 1]);
-        }
-    }
-    Found::Nothing
 }
 
 // The type of a width at a place.

@@ -12,7 +12,7 @@ use crate::ty::is_bool;
 use reading::Answer;
 use reading::Cursor;
 use reading::Tagged;
-ghost use Rattle.typing.specs.Table.{envAt};
+ghost use Rattle.typing.specs.Blocks.{envAt};
 ghost use Rattle.typing.specs.Judges.{TypesFormula, TypesBool, TypesBounded, TypesTwo};
 
 // The formula at a place, with as many levels left.

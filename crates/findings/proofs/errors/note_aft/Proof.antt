@@ -1,7 +1,6 @@
 -- The names are those of the variables.
 use borrow.Author.Needs.{needs}
 use native.Mathlib.Omega.{arith}
-use Rattle.findings.proofs.ModuleLaws.{aft-noted}
 use Rattle.findings.proofs.errors.note_aft.Statement.{statement}
 use Rattle.findings.proofs.errors.note_aft.Tie as tie
 
@@ -12,7 +11,6 @@ note-aft-spec =
     (λ c. search needs)
     (λ c. search needs)
     (λ c. search needs)
-    (λ c. search needs)
     (λ c κs. search needs)
     (λ c. search needs)
-    (λ c. (search aft-noted, omega arith)))
+    (λ c. (search needs, omega arith)))

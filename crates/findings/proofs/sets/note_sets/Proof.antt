@@ -1,4 +1,4 @@
--- A long list goes its own way; of another, what is noted and what is still to be noted make the whole.
+-- What is noted and what is still to be noted make the whole.
 use Prim.Native.Nat.{_+_, _-_, _≤_}
 use mathlib.Core.Path.{_≡_, refl}
 use native.Mathlib.Omega.{arith}
@@ -16,7 +16,7 @@ abbrev μ-loop : tie.MeasureT-loop
 μ-loop doc at i vars names enums out₀ skip n owner count many k₀ j₀ next₀ out k j next = many - j
 
 cast-many : tie.Need-cast-many Inv-loop μ-loop
-cast-many c = let h : c .before .before .a .given .0 .0 ≤ 255 = search walk-few in omega arith
+cast-many c = let h : c .before .a .given .0 .0 ≤ 255 = search walk-few in omega arith
 
 loop-holds : tie.Need-loop-holds Inv-loop μ-loop
 loop-holds c = (search walk-start, omega arith, search walk-few, omega arith, refl)
@@ -34,9 +34,6 @@ note-sets-spec =
     (λ c. search needs)
     (λ c. search needs)
     (λ c. (search sets-refused, omega arith))
-    (λ c κs. (omega arith, omega arith))
-    (λ c. search needs)
-    (λ c. search needs)
     cast-many
     loop-holds
     (λ c κs. search needs)

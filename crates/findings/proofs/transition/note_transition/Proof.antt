@@ -1,4 +1,4 @@
--- The words of the bindings, after those of the variables, mean what the pattern binds.
+-- By the names with those that the pattern binds.
 use native.Mathlib.Omega.{arith}
 use borrow.Author.Needs.{needs}
 use Rattle.findings.proofs.TransitionLaws.{transition-noted}
@@ -12,10 +12,8 @@ pub note-transition-spec : {M : Type 1} → statement M
 note-transition-spec =
     tie.close
     (tie.spec
-    (λ c. search needs)
     (λ c κs. search needs)
     (λ c κs. search needs)
-    (λ c. search needs)
     (λ c. search needs)
     (λ c. search needs)
     (λ c. search needs)

@@ -9,10 +9,10 @@ use Rattle.findings.proofs.transition.note_transitions.Statement.{state
 use Rattle.findings.proofs.transition.note_transitions.Tie as tie
 
 abbrev Inv-loop : tie.InvT-loop
-Inv-loop doc places rows prints count variants hints table₀ vars enums out₀ skip n owner i₀ next₀ table out i next = Turns doc places rows prints count variants table₀ vars enums owner out₀ skip n i next table out × (i ≤ count) × (next ≤ n + 514 * i) × (length out ≡ length out₀) × (length table ≡ length table₀)
+Inv-loop doc places rows prints count variants hints table₀ enums out₀ skip n owner i₀ next₀ table out i next = Turns doc places rows prints count variants table₀ enums owner out₀ skip n i next table out × (i ≤ count) × (next ≤ n + 514 * i) × (length out ≡ length out₀) × (length table ≡ length table₀)
 
 abbrev μ-loop : tie.MeasureT-loop
-μ-loop doc places rows prints count variants hints table₀ vars enums out₀ skip n owner i₀ next₀ table out i next = count - i
+μ-loop doc places rows prints count variants hints table₀ enums out₀ skip n owner i₀ next₀ table out i next = count - i
 
 loop-holds : tie.Need-loop-holds Inv-loop μ-loop
 loop-holds c = (search turns-start, omega arith, omega arith, refl, refl)

@@ -1,6 +1,6 @@
 -- One after another.
 use borrow.Author.Needs.{needs}
-use Rattle.findings.proofs.ModuleLaws.{enums-few, claims-few}
+use Rattle.findings.proofs.ModuleLaws.{claims-few}
 use Rattle.findings.proofs.whole.name_module.Statement.{statement}
 use Rattle.findings.proofs.whole.name_module.Tie as tie
 
@@ -13,4 +13,4 @@ name-module-spec =
     (λ c. search needs)
     (λ c. search needs)
     (λ c. search needs)
-    (λ c. (search needs, (search needs, (search enums-few, search claims-few)))))
+    (λ c. (search needs, (search needs, search claims-few))))

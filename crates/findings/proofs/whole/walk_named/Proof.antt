@@ -12,7 +12,7 @@ walk-named-spec =
     (λ c κs. search needs)
     (λ c κs.
     let p = c .before .before .before .before .before .before .before .before .before .before .before .before .before .before .before .before .before .before .before .before .before .before .before .before .pre in
-    (search needs, (omega arith, (omega (arith, p .1 .1 .0), (omega arith, (omega arith, (omega (arith, p .1 .1 .1 .1 .0), omega (arith, p .1 .1 .1 .1 .1))))))))
+    (search needs, (omega arith, (omega arith, (omega arith, (omega (arith, p .1 .1 .1 .1 .0), omega (arith, p .1 .1 .1 .1 .1)))))))
     (λ c. search needs)
     (λ c. search needs)
     (λ c. search needs)

@@ -2,7 +2,7 @@
 use Rattle.typing.proofs.EmitLaws.{Judging, args-start, args-hit, args-untyped, args-miss, args-done}
 use native.Mathlib.Omega.{arith}
 use borrow.Author.Needs.{needs}
-use Rattle.typing.specs.Table.{envAt}
+use Rattle.typing.specs.Blocks.{envAt}
 use Rattle.typing.proofs.args.judge_args.Statement.{statement}
 use Rattle.typing.proofs.args.judge_args.Tie as tie
 

@@ -1,0 +1,82 @@
+-- Tables of blocks. A block holds up to 255 pairs of places, of a name and of what is declared under it, on 64 lanes by the name's print. It has
+-- 829 words: the pairs, then a head for each lane, then a link for each pair. A head or a link is one more than a pair's number; a lane ends
+-- where there is no such pair. The pairs of a lane are looked through from the last on, and so are the blocks of a table.
+use Prim.Native.Nat.{ℕ, zero, suc, _+_, _-_, _*_, _/_, _%_, _<_, _≤_}
+use mathlib.Core.Path.{_≡_}
+use mathlib.Core.List.{List}
+use mathlib.Core.Option.{Option, none, some}
+use lib.ListN.{length, getD, take}
+use lib.Dec.{eqb, ltb}
+use Rattle.reading.specs.Read.{pick}
+use Rattle.reading.specs.Text.{Name}
+use Rattle.reading.specs.Skip.{textAt}
+use Rattle.typing.specs.Names.{eqName}
+use Rattle.typing.specs.Causes.{firstOf}
+use Rattle.typing.specs.Env.{Env, given}
+use Rattle.typing.specs.Lanes.{print, Woven}
+use Rattle.typing.specs.Table.{lastIn, typeFound, variantFound}
+
+-- the words of the block from word o on: the name of pair i and what is under it, the head of a lane, the link of a pair
+abbrev pub nameIn : List ℕ → ℕ → ℕ → ℕ
+nameIn T o i = getD T (o + 2 * i) 0
+
+abbrev pub underIn : List ℕ → ℕ → ℕ → ℕ
+underIn T o i = getD T (o + 2 * i + 1) 0
+
+abbrev pub headIn : List ℕ → ℕ → ℕ → ℕ
+headIn T o h = getD T (o + 510 + h) 0
+
+abbrev pub linkIn : List ℕ → ℕ → ℕ → ℕ
+linkIn T o i = getD T (o + 574 + i) 0
+
+abbrev pub laneIn : List ℕ → List ℕ → ℕ → ℕ → ℕ
+laneIn s T o i = print 0 (textAt s (nameIn T o i)) % 64
+
+-- the first k pairs of the block are on their lanes
+abbrev pub BlockWoven : List ℕ → List ℕ → ℕ → ℕ → Type 0
+BlockWoven s T o k = Woven 64 (laneIn s T o) k (headIn T o) (linkIn T o)
+
+-- what stands under a name along a lane, from a head or link on, in so many steps at most
+unfoldable pub alongLane : ℕ → List ℕ → Name → List ℕ → ℕ → ℕ → Option ℕ
+alongLane zero s n T o p = none
+alongLane (suc f) s n T o p =
+    pick (eqb p 0) none
+    (pick (ltb 255 p) none
+    (pick (eqName (textAt s (nameIn T o (p - 1))) n) (some (underIn T o (p - 1))) (alongLane f s n T o (linkIn T o (p - 1)))))
+
+-- in the block from word o on
+unfoldable pub blockFind : List ℕ → Name → List ℕ → ℕ → Option ℕ
+blockFind s n T o = alongLane 255 s n T o (headIn T o (print 0 n % 64))
+
+-- in the first b blocks
+unfoldable pub findBlocks : ℕ → List ℕ → Name → List ℕ → Option ℕ
+findBlocks zero s n T = none
+findBlocks (suc b) s n T = firstOf (blockFind s n T (829 * b)) (findBlocks b s n T)
+
+unfoldable pub findIn : List ℕ → Name → List ℕ → Option ℕ
+findIn s n T = findBlocks (length T / 829) s n T
+
+-- the block from word o on has the pairs
+pub record Keeps (s pairs T : List ℕ) (o : ℕ) : Type 0 where
+  pub finds : (n : Name) → blockFind s n T o ≡ lastIn s n pairs
+
+-- a block after its first k pairs were put on their lanes: those and all words before the block are as they were
+pub record Weaves (s T : List ℕ) (o k : ℕ) (T′ : List ℕ) : Type 0 where
+  pub size : length T′ ≡ length T
+  pub kept : take (o + 510) T′ ≡ take (o + 510) T
+  pub woven : BlockWoven s T′ o k
+
+-- the first lanes of the block are empty, and all words before its heads are as they were
+pub record Clears (T : List ℕ) (o h : ℕ) (T′ : List ℕ) : Type 0 where
+  pub size : length T′ ≡ length T
+  pub kept : take (o + 510) T′ ≡ take (o + 510) T
+  pub empty : (j : ℕ) → j < h → headIn T′ o j ≡ 0
+
+-- what names mean by two tables of blocks: names with their types, bindings after variables; enums with their variants
+unfoldable pub envAt : List ℕ → List ℕ → List ℕ → Env
+envAt s names enums = record {
+  bindings = λ n. none;
+  vars = λ n. typeFound s (findIn s n names);
+  enums = λ n. given (findIn s n enums);
+  variants = λ e n. variantFound s n (findIn s e enums);
+}

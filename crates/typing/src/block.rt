@@ -1,0 +1,122 @@
+// Tables of blocks, made once for a module: names and what is declared under each, as pairs of places on lanes. A block has 829 words: 255
+// pairs, 64 heads of lanes, and 255 links.
+use crate::fill::fill_table;
+use crate::fill::store;
+use crate::lanes::print_bytes;
+use crate::names::same;
+use crate::table::Found;
+use reading::text_at;
+ghost use mathlib.Core.Path.{_≡_};
+ghost use Prim.Native.Nat.{_+_, _*_, _%_, _<_, _≤_};
+ghost use lib.ListN.{length, take};
+ghost use Rattle.typing.specs.Table.{found, pairsAt};
+ghost use Rattle.typing.specs.Lanes.{print};
+ghost use Rattle.typing.specs.Blocks.{BlockWoven, blockFind, findIn, Keeps, Weaves, Clears};
+
+// The lane of a name in a block.
+fn block_lane(name: &[u8]) -> usize
+    ensures { λ r. ⌜ r ≡ print 0 (now (name .entry)) % 64 ⌝ }
+    ensures { λ r. ⌜ r < 64 ⌝ }
+{
+    (print_bytes(name, 0) % 64) as usize
+}
+
+// What stands under a name in the block from word o on, by the name's lane.
+fn find_in_block<'a>(
+    doc: &'a [u8],
+    table: &'a [usize],
+    o: usize,
+    lane: usize,
+    name: &'a [u8],
+) -> Found
+    requires { ⌜ o + 829 ≤ length (now table) ⌝ }
+    requires { ⌜ lane < 64 ⌝ }
+    requires { ⌜ lane ≡ print 0 (now name) % 64 ⌝ }
+    ensures { λ r. ⌜ r ≡ found (blockFind (now (doc .entry)) (now (name .entry)) (now (table .entry)) o) ⌝ }
+{
+    let mut p = table[o + 510 + lane];
+    let mut left: usize = 255;
+    while 0 < left {
+        if p == 0 {
+            return Found::Nothing;
+        }
+        if 255 < p {
+            return Found::Nothing;
+        }
+        let i = p - 1;
+        if same(text_at(doc, table[o + 2 * i]), name) {
+            return Found::At(table[o + 2 * i + 1]);
+        }
+        p = table[o + 574 + i];
+        left -= 1;
+    }
+    Found::Nothing
+}
+
+// What stands under a name in a table of blocks, by the last that has it.
+pub fn find<'a>(doc: &'a [u8], table: &'a [usize], name: &'a [u8]) -> Found
+    ensures { λ r. ⌜ r ≡ found (findIn (now (doc .entry)) (now (name .entry)) (now (table .entry))) ⌝ }
+{
+    let lane = block_lane(name);
+    let mut b = table.len() / 829;
+    while 0 < b {
+        b -= 1;
+        let f = find_in_block(doc, table, 829 * b, lane, name);
+        match f {
+            Found::At(place) => {
+                return Found::At(place);
+            }
+            Found::Nothing => {}
+        }
+    }
+    Found::Nothing
+}
+
+// Empties the lanes of the block from word o on.
+fn clear_lanes(table: &mut [usize], o: usize)
+    requires { ⌜ o + 829 ≤ length (now table) ⌝ }
+    ensures { λ _. ⌜ Clears (now (table .entry)) o 64 (now (table .exit)) ⌝ }
+{
+    let mut h: usize = 0;
+    while h < 64 {
+        table[o + 510 + h] = 0;
+        h += 1;
+    }
+}
+
+// Puts pair i of the block from word o on upon its lane.
+fn weave_pair(doc: &[u8], table: &mut [usize], o: usize, i: usize)
+    requires { ⌜ o + 829 ≤ length (now table) ⌝ }
+    requires { ⌜ i < 255 ⌝ }
+    requires { ⌜ BlockWoven (now doc) (now table) o i ⌝ }
+    ensures { λ _. ⌜ Weaves (now (doc .entry)) (now (table .entry)) o (i + 1) (now (table .exit)) ⌝ }
+{
+    let h = o + 510 + block_lane(text_at(doc, table[o + 2 * i]));
+    let head = table[h];
+    store(table, o + 574 + i, head);
+    store(table, h, i + 1);
+}
+
+// Puts the first n pairs of the block from word o on upon their lanes.
+pub fn weave(doc: &[u8], table: &mut [usize], o: usize, n: usize)
+    requires { ⌜ o + 829 ≤ length (now table) ⌝ }
+    requires { ⌜ n ≤ 255 ⌝ }
+    ensures { λ _. ⌜ Weaves (now (doc .entry)) (now (table .entry)) o n (now (table .exit)) ⌝ }
+{
+    clear_lanes(table, o);
+    let mut i: usize = 0;
+    while i < n {
+        weave_pair(doc, table, o, i);
+        i += 1;
+    }
+}
+
+// Fills the block that a table begins with from the list of records at a place.
+pub fn fill_block(doc: &[u8], at: usize, table: &mut [usize])
+    requires { ⌜ 829 ≤ length (now table) ⌝ }
+    ensures { λ _. ⌜ Keeps (now (doc .entry)) (pairsAt (now (doc .entry)) at) (now (table .exit)) 0 ⌝ }
+    ensures { λ _. ⌜ length (now (table .exit)) ≡ length (now (table .entry)) ⌝ }
+{
+    let words = fill_table(doc, at, table);
+    weave(doc, table, 0, words / 2);
+}
