@@ -20,8 +20,8 @@ use Rattle.reading.proofs.Views.{document-at}
 use Rattle.findings.specs.Finding.{Finding, words}
 use Rattle.findings.specs.Findings.{allErrors, allWarnings, findings}
 use Rattle.findings.specs.Sheet.{put}
-use Rattle.findings.specs.Walks.{WalksAll, Walked, PutsErrors, PutsWarnings, PutsAll, PutsKept, Replies, Lines, WarningLine}
-use Rattle.findings.specs.Reply.{tooMany, replyTo, sheetOf, lineOf, lineTo}
+use Rattle.findings.specs.Walks.{WalksAll, Walked, PutsErrors, PutsWarnings, PutsAll, PutsKept, Replies, ByKind, Lines, WarningLine}
+use Rattle.findings.specs.Reply.{tooMany, replyTo, sheetOf, countsTo, errorsIn, warningsIn, counted, lineOf, lineTo}
 use Rattle.findings.specs.declared.whole.Totals.{Totals}
 use Rattle.findings.specs.declared.reply.Reply.{Reply}
 use Rattle.findings.specs.declared.reply.Reply.the-variants.{Counts, Refused, Short}
@@ -150,6 +150,65 @@ module _ (s o : List ℕ) {v : Verdict} (e : v ≡ verdict (readDocument s)) whe
 
   pub accepted-sheet : (r : Reply) (o′ : List ℕ) → v ≡ verdict.Accepted → Replies s o r o′ → o′ ≡ sheetOf o (readDocument s)
   accepted-sheet r o′ q t = both-accepted r o′ q t .1
+
+-- errors and warnings in words of their own
+module _ (s : List ℕ) {e e′ w w′ : List ℕ} {a b : ℕ} where
+  pub by-kind : WalksAll s e 0 0 a e′ w 0 0 b w′ → ByKind s e w (Counts a b) e′ w′
+  unfolding countsTo errorsIn warningsIn
+  by-kind t = record {
+    of = λ x n g.
+        let u = t .of x n (document-at s x n g) in
+        let p = u .errors-are .count in
+        let q = u .warnings-are .count in
+        let i : a ≡ length (allErrors x) = omega arith in
+        let j : b ≡ length (allWarnings x) = omega arith in
+        (rw (i, j), u .errors-are .buffer, u .warnings-are .buffer);
+  }
+
+-- a walk counts at most so many of each kind
+pub counted-few : {a b : ℕ} → a ≤ 532733824 → b ≤ 531656640 → counted (Counts a b) ≤ 1064390464
+unfolding counted
+counted-few h i = omega arith
+
+pub counted-none : (f : Fault) (p : ℕ) → counted (Refused f p) ≤ 1064390464
+unfolding counted
+counted-none f p = omega arith
+
+module _ (s e w : List ℕ) {v : Verdict} (h : v ≡ verdict (readDocument s)) where
+  kinds-refused : {f : Fault} {p : ℕ} → v ≡ verdict.Refused f p → (Refused f p ≡ countsTo (readDocument s)) × (e ≡ errorsIn e (readDocument s)) × (w ≡ warningsIn w (readDocument s))
+  unfolding verdict countsTo errorsIn warningsIn
+  kinds-refused {f} {p} q = go (readDocument s) (sym q ∙ h)
+    where
+      go : (m : Read Ir) → verdict.Refused f p ≡ verdict m → (Refused f p ≡ countsTo m) × (e ≡ errorsIn e m) × (w ≡ warningsIn w m)
+      go (ok x n) z = no (cc)
+      go (refused g k) z = let a : f ≡ g = cc in let b : p ≡ k = cc in (rw (a, b), refl, refl)
+
+  pub refused-counts : {f : Fault} {p : ℕ} → v ≡ verdict.Refused f p → Refused f p ≡ countsTo (readDocument s)
+  refused-counts q = kinds-refused q .0
+
+  pub refused-errors : {f : Fault} {p : ℕ} → v ≡ verdict.Refused f p → e ≡ errorsIn e (readDocument s)
+  refused-errors q = kinds-refused q .1
+
+  pub refused-warnings : {f : Fault} {p : ℕ} → v ≡ verdict.Refused f p → w ≡ warningsIn w (readDocument s)
+  refused-warnings q = kinds-refused q .2
+
+  module _ {r : Reply} {e′ w′ : List ℕ} (q : v ≡ verdict.Accepted) (t : ByKind s e w r e′ w′) where
+    kinds-accepted : (r ≡ countsTo (readDocument s)) × (e′ ≡ errorsIn e (readDocument s)) × (w′ ≡ warningsIn w (readDocument s))
+    unfolding verdict
+    kinds-accepted = go (readDocument s) refl (sym q ∙ h)
+      where
+        go : (m : Read Ir) → readDocument s ≡ m → verdict.Accepted ≡ verdict m → (r ≡ countsTo (readDocument s)) × (e′ ≡ errorsIn e (readDocument s)) × (w′ ≡ warningsIn w (readDocument s))
+        go (ok x n) g z = let u = t .of x n g in (u .0 ∙ ap countsTo (sym g), u .1 ∙ ap (errorsIn e) (sym g), u .2 ∙ ap (warningsIn w) (sym g))
+        go (refused g k) z y = no (cc)
+
+    pub accepted-counts : r ≡ countsTo (readDocument s)
+    accepted-counts = kinds-accepted .0
+
+    pub accepted-errors : e′ ≡ errorsIn e (readDocument s)
+    accepted-errors = kinds-accepted .1
+
+    pub accepted-warnings : w′ ≡ warningsIn w (readDocument s)
+    accepted-warnings = kinds-accepted .2
 
 -- one finding
 getD-front : (xs ys : List Finding) (k : ℕ) (d : Finding) → k < length xs → getD (xs ++ ys) k d ≡ getD xs k d

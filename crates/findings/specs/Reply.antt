@@ -1,5 +1,5 @@
--- What the findings call answers and leaves, and what the call for one finding answers.
-use Prim.Native.Nat.{ℕ, _*_}
+-- What the calls for all findings answer and leave, and what the call for one finding answers.
+use Prim.Native.Nat.{ℕ, _+_, _*_}
 use mathlib.Core.List.{List, _++_}
 use mathlib.Core.Bool.{Bool, cond}
 use lib.ListN.{length, getD, drop}
@@ -9,7 +9,7 @@ use Rattle.reading.specs.Fault.{number}
 use Rattle.reading.specs.Module.{Ir}
 use Rattle.findings.specs.Finding.{note, Finding, inModule}
 use Rattle.findings.specs.Findings.{allErrors, allWarnings, findings}
-use Rattle.findings.specs.Sheet.{flat}
+use Rattle.findings.specs.Sheet.{put, flat}
 use Rattle.findings.specs.declared.reply.Reply.{Reply}
 use Rattle.findings.specs.declared.reply.Reply.the-variants.{Counts, Refused, Short}
 use Rattle.findings.specs.declared.reply.Line.{Line}
@@ -28,6 +28,26 @@ replyTo o (ok x n) = cond (tooMany o x) (Short (length (findings x))) (Counts (l
 unfoldable pub sheetOf : List ℕ → Read Ir → List ℕ
 sheetOf o (refused f p) = o
 sheetOf o (ok x n) = cond (tooMany o x) o (flat (findings x) ++ drop (5 * length (findings x)) o)
+
+-- the answer where errors and warnings each have words of their own: the counts, whether all findings fit or not
+unfoldable pub countsTo : Read Ir → Reply
+countsTo (refused f p) = Refused f p
+countsTo (ok x n) = Counts (length (allErrors x)) (length (allWarnings x))
+
+-- the words for errors and those for warnings afterwards
+unfoldable pub errorsIn : List ℕ → Read Ir → List ℕ
+errorsIn o (refused f p) = o
+errorsIn o (ok x n) = put o 0 0 (allErrors x)
+
+unfoldable pub warningsIn : List ℕ → Read Ir → List ℕ
+warningsIn o (refused f p) = o
+warningsIn o (ok x n) = put o 0 0 (allWarnings x)
+
+-- how many findings an answer counts
+unfoldable pub counted : Reply → ℕ
+counted (Counts e w) = e + w
+counted (Refused f p) = 0
+counted (Short n) = n
 
 -- document 01's number of an answer: 0 where the findings were written
 unfoldable pub numberOf : Reply → ℕ

@@ -15,7 +15,7 @@ use Rattle.findings.specs.Sheet.{put, Written}
 use Rattle.findings.specs.Noting.{Noted}
 use Rattle.findings.specs.Scene.{Bytes, Reads, Rows, Scene}
 use Rattle.findings.specs.Prints.{Prints}
-use Rattle.findings.specs.Reply.{replyTo, sheetOf, lineTo}
+use Rattle.findings.specs.Reply.{replyTo, sheetOf, countsTo, errorsIn, warningsIn, lineTo}
 use Rattle.findings.specs.declared.whole.Totals.{Totals}
 use Rattle.findings.specs.declared.reply.Reply.{Reply}
 use Rattle.findings.specs.declared.reply.Line.{Line}
@@ -69,6 +69,10 @@ pub record PutsAll (s e′ w′ : List ℕ) (t : Totals) (o : List ℕ) (r : Rep
 -- where the walk kept all of them, whatever the document
 pub record PutsKept (e′ w′ : List ℕ) (t : Totals) (o : List ℕ) (r : Reply) (o′ : List ℕ) : Type 0 where
   pub of : (s : List ℕ) → PutsAll s e′ w′ t o r o′
+
+-- the answer where errors and warnings each have words of their own, and those words afterwards
+pub record ByKind (s e w : List ℕ) (r : Reply) (e′ w′ : List ℕ) : Type 0 where
+  pub of : (x : Ir) (n : ℕ) → readDocument s ≡ ok x n → (r ≡ countsTo (ok x n)) × (e′ ≡ errorsIn e (ok x n)) × (w′ ≡ warningsIn w (ok x n))
 
 -- finding number k of a document that reads
 pub record Lines (s : List ℕ) (k : ℕ) (r : Line) : Type 0 where

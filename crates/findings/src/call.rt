@@ -7,7 +7,8 @@ ghost use mathlib.Core.Path.{_≡_};
 ghost use Prim.Native.Nat.{_+_, _*_, _≤_};
 ghost use lib.ListN.{length};
 ghost use lib.Seq.{paste};
-ghost use Rattle.findings.specs.Walks.{PutsErrors, PutsWarnings, PutsAll, PutsKept, Replies, WarningLine, Lines};
+ghost use Rattle.findings.specs.Walks.{PutsErrors, PutsWarnings, PutsAll, PutsKept, Replies, ByKind, WarningLine, Lines};
+ghost use Rattle.findings.specs.Reply.{counted};
 
 // Copies so many words into another buffer, from its word at on.
 fn copy_words(from: &[u32], len: usize, out: &mut [u32], at: usize)
@@ -122,6 +123,15 @@ pub(crate) fn reply(doc: &[u8], out: &mut [u32]) -> Reply
         return reply_short(doc, out);
     }
     reply_long(doc, out)
+}
+
+// The errors into one buffer and the warnings into another, as far as they fit.
+pub(crate) fn kinds(doc: &[u8], errors: &mut [u32], warnings: &mut [u32]) -> Reply
+    ensures { λ r. ⌜ ByKind (now (doc .entry)) (now (errors .entry)) (now (warnings .entry)) r (now (errors .exit)) (now (warnings .exit)) ⌝ }
+    ensures { λ r. ⌜ counted r ≤ 1064390464 ⌝ }
+{
+    let totals = walk_all(doc, errors, 0, 0, warnings, 0, 0);
+    Reply::Counts(totals.errors, totals.warnings)
 }
 
 // Finding number k, where it is a warning: so many errors come before the warnings.

@@ -52,8 +52,9 @@ pub use transition::judge_pattern;
 pub use whole::Ready;
 pub use whole::name_module;
 ghost use mathlib.Core.Path.{_≡_};
+ghost use Prim.Native.Nat.{_≤_};
 ghost use Rattle.reading.specs.Document.{readDocument};
-ghost use Rattle.findings.specs.Reply.{replyTo, sheetOf, lineTo};
+ghost use Rattle.findings.specs.Reply.{replyTo, sheetOf, countsTo, errorsIn, warningsIn, counted, lineTo};
 
 // All findings of a document: five words each, errors first, from the front of the lent words; the words past them keep
 // their contents. Nothing is written where the document is refused or the words are too few.
@@ -64,6 +65,21 @@ pub fn findings(doc: &[u8], out: &mut [u32]) -> Reply
     let verdict = read_document(doc);
     match verdict {
         Verdict::Accepted => call::reply(doc, out),
+        Verdict::Refused(fault, place) => Reply::Refused(fault, place),
+    }
+}
+
+// The errors of a document into one lent buffer and its warnings into another, five words each, from the front on and as far as they
+// fit; the other words keep their contents. How many there are of each, or the refusal; then nothing is written.
+pub fn by_kind(doc: &[u8], errors: &mut [u32], warnings: &mut [u32]) -> Reply
+    ensures { λ r. ⌜ r ≡ countsTo (readDocument (now (doc .entry))) ⌝ }
+    ensures { λ _. ⌜ now (errors .exit) ≡ errorsIn (now (errors .entry)) (readDocument (now (doc .entry))) ⌝ }
+    ensures { λ _. ⌜ now (warnings .exit) ≡ warningsIn (now (warnings .entry)) (readDocument (now (doc .entry))) ⌝ }
+    ensures { λ r. ⌜ counted r ≤ 1064390464 ⌝ }
+{
+    let verdict = read_document(doc);
+    match verdict {
+        Verdict::Accepted => call::kinds(doc, errors, warnings),
         Verdict::Refused(fault, place) => Reply::Refused(fault, place),
     }
 }

@@ -1,8 +1,8 @@
 // What the calls of this crate answer.
 use reading::Fault;
 
-// The findings were written, so many errors and so many warnings; or the document is refused, with the fault and its
-// place; or the lent words are too few for so many findings.
+// There are so many errors and so many warnings; or the document is refused, with the fault and its place; or the lent words
+// are too few for so many findings.
 pub enum Reply {
     Counts(usize, usize),
     Refused(Fault, usize),

@@ -15,7 +15,7 @@ ghost use Rattle.text.specs.Told.{toldOf, textOf};
 ghost use Rattle.text.specs.Told as told;
 
 // Document 01's number of a fault.
-fn fault_number(fault: Fault) -> u32
+pub fn fault_number(fault: Fault) -> u32
     ensures { λ r. ⌜ r ≡ number fault ⌝ }
 {
     match fault {

@@ -3,11 +3,12 @@
 mod lines;
 mod output;
 
+use findings::Reply;
 use libc::STDIN_FILENO;
 use lines::print_findings;
 use output::print_numbers;
 use text::put_bytes;
-ghost use Prim.Native.Nat.{_≤_};
+ghost use Prim.Native.Nat.{_+_, _≤_};
 ghost use lib.ListN.{length};
 
 // Whether there are findings.
@@ -30,17 +31,30 @@ fn print_last(number: u32, first: u64, second: u64) {
     print_numbers(b"refused ", number as u64, b" at ", first, b"\n");
 }
 
+// The lines of so many errors and so many warnings, and the last: 16,380 words hold 3,276 findings, and more are refusal 10.
+fn print_kinds<'a>(doc: &'a [u8], errors: &'a [u32], e: usize, warnings: &'a [u32], w: usize)
+    requires { ⌜ e + w ≤ 1064390464 ⌝ }
+{
+    let all = e + w;
+    if 3276 < all {
+        print_last(10, all as u64, 0);
+        return;
+    }
+    print_findings(doc, errors, e as u64, 0);
+    print_findings(doc, warnings, 0, w as u64);
+    print_last(0, e as u64, w as u64);
+}
+
 // What is found in a document.
 fn check(doc: &[u8]) {
-    let mut words = [0u32; 16380];
-    let mut answer = [0u64; 2];
-    let number = offer::offer_findings(doc, &mut words, &mut answer);
-    let first = answer[0];
-    let second = answer[1];
-    if any_found(number, first, second) {
-        print_findings(doc, &words, first, second);
+    let mut errors = [0u32; 16380];
+    let mut warnings = [0u32; 16380];
+    let r = findings::by_kind(doc, &mut errors, &mut warnings);
+    match r {
+        Reply::Counts(e, w) => print_kinds(doc, &errors, e, &warnings, w),
+        Reply::Refused(fault, place) => print_last(offer::fault_number(fault), place as u64, 0),
+        Reply::Short(count) => print_last(10, count as u64, 0),
     }
-    print_last(number, first, second);
 }
 
 // What is found in the document that the first bytes of a space are.
