@@ -21,6 +21,7 @@ pub mod ClaimLaws
 pub mod VariantLaws
 pub mod SayLaws
 pub mod PieceLaws
+pub mod ListedLaws
 pub mod WordsLaws
 pub mod ToldLaws
 pub mod FindingLaws

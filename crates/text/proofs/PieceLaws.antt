@@ -42,12 +42,12 @@ format-plain (c ∷ p) f as′ h =
     let e = neither (eqb c 123) (eqb c 125) (plain p) (next as′ ++ format (p ++ f) (rest as′)) (format (p ++ f) as′) (c ∷ format (p ++ f) as′) h in
     e .0 ∙ ap (λ (x : List ℕ). c ∷ x) (format-plain p f as′ (e .1))
 
-format-end : (p : List ℕ) (as′ : List (List ℕ)) → plain p ≡ true → format p as′ ≡ p
+pub format-end : (p : List ℕ) (as′ : List (List ℕ)) → plain p ≡ true → format p as′ ≡ p
 unfolding format
 format-end p as′ h = ap (λ (x : List ℕ). format x as′) (sym (append-nil p)) ∙ format-plain p [] as′ h ∙ append-nil p
 
 -- a piece up to an argument
-format-arg : (p f a : List ℕ) (as′ : List (List ℕ)) → plain p ≡ true → format (p ++ (123 ∷ 125 ∷ f)) (a ∷ as′) ≡ p ++ (a ++ format f as′)
+pub format-arg : (p f a : List ℕ) (as′ : List (List ℕ)) → plain p ≡ true → format (p ++ (123 ∷ 125 ∷ f)) (a ∷ as′) ≡ p ++ (a ++ format f as′)
 unfolding format
 format-arg p f a as′ h = format-plain p (123 ∷ 125 ∷ f) (a ∷ as′) h
 

@@ -1,4 +1,4 @@
--- What the messages of two transitions have in common.
+-- What the messages of two transitions have in common, and those of a list's entries.
 use mathlib.Core.List.{List, _++_}
 use Prim.Native.Nat.{ℕ}
 use Rattle.reading.specs.Text.{Name}
@@ -15,3 +15,10 @@ inPriority n t k = inState n t ++ text "': duplicate priority " ++ k
 -- the ids of both
 unfoldable pub bothIds : List ℕ → List ℕ → List ℕ
 bothIds i j = i ++ text " and #" ++ j
+
+-- in which module an entry is, and in which transition
+unfoldable pub inModule : List ℕ → List ℕ
+inModule n = text "module '" ++ n
+
+unfoldable pub inTransition : List ℕ → List ℕ → List ℕ
+inTransition n i = inModule n ++ text "' transition #" ++ i

@@ -9,6 +9,7 @@ mod entry;
 mod finding;
 mod fore;
 mod form;
+mod listed;
 mod out;
 mod pair;
 mod path;
