@@ -15,13 +15,11 @@ struct Step {
     at: usize,
 }
 
-// How many words of the tables are filled with groups of events, with groups of outputs, with enums, with variables, and with
-// variables and bindings; and the number that was given last.
+// How many words of the tables are filled with groups of events, with groups of outputs, and with the blocks of variables and bindings; and
+// the number that was given last.
 struct State {
     events: usize,
     outputs: usize,
-    enums: usize,
-    vars: usize,
     bound: usize,
     given: u32,
 }
@@ -30,9 +28,7 @@ fn start() -> State {
     State {
         events: 0,
         outputs: 0,
-        enums: 0,
-        vars: 0,
-        bound: 0,
+        bound: 829,
         given: 0,
     }
 }
@@ -56,17 +52,11 @@ fn word_at(s: &[u8], at: usize) -> u64 {
     word(s[at], s[at + 1], s[at + 2], s[at + 3])
 }
 
-fn with_enums(t: State, words: usize) -> State {
-    let mut out = t;
-    out.enums = words;
-    out
-}
-
-fn with_vars(t: State, words: usize) -> State {
-    let mut out = t;
-    out.vars = words;
-    out.bound = words;
-    out
+// Fills the first block of a table, where it has one.
+fn fill_first(doc: &[u8], at: usize, table: &mut [usize]) {
+    if 829 <= table.len() {
+        typing::fill_block(doc, at, table);
+    }
 }
 
 // One of a module's lists.
@@ -81,13 +71,16 @@ fn set_up(
 ) -> State {
     let kind = s.kind;
     let at = s.at;
+    let mut out = t;
     if kind == 0 {
-        return with_enums(t, typing::fill_table(doc, at, enums));
+        fill_first(doc, at, enums);
+        return out;
     }
     if kind == 1 {
-        return with_vars(t, typing::fill_table(doc, at, names));
+        fill_first(doc, at, names);
+        out.bound = 829;
+        return out;
     }
-    let mut out = t;
     if kind == 2 {
         out.events = typing::fill_table(doc, at, events);
         return out;
@@ -96,18 +89,22 @@ fn set_up(
     out
 }
 
-// The sum of two counts; a million where one is larger.
-fn together(a: usize, b: usize) -> usize {
-    if 1000000 < a {
-        return 1000000;
+// Puts so many words of bindings in the second block on their lanes; the words of both blocks.
+fn bound_to(doc: &[u8], names: &mut [usize], words: usize) -> usize {
+    if words == 0 {
+        return 829;
     }
-    if 1000000 < b {
-        return 1000000;
+    if names.len() < 1658 {
+        return 829;
     }
-    a + b
+    if 510 < words {
+        return 829;
+    }
+    typing::weave(doc, names, 829, words / 2);
+    1658
 }
 
-// A pattern: its bindings stand after the variables.
+// A pattern: its bindings stand in the second block.
 fn bind<'a>(doc: &'a [u8], s: Step, names: &mut [usize], events: &'a [usize], t: State) -> State {
     let mut out = t;
     let start = 0;
@@ -116,9 +113,9 @@ fn bind<'a>(doc: &'a [u8], s: Step, names: &mut [usize], events: &'a [usize], t:
         out.given = 255;
         return out;
     }
-    let b = typing::validate_event_pattern(doc, s.at, &events[start..e], names, t.vars);
+    let b = typing::validate_event_pattern(doc, s.at, &events[start..e], names, 829);
     let blame = b.blame;
-    out.bound = together(t.vars, b.words);
+    out.bound = bound_to(doc, names, b.words);
     out.given = typing::blame_number(doc, blame);
     out
 }
@@ -128,7 +125,7 @@ fn seen(kind: u64, t: State) -> usize {
     if sees_bindings(kind) {
         return t.bound;
     }
-    t.vars
+    829
 }
 
 // Any other item, with the names it sees; 255 where the tables have too few words.
@@ -143,11 +140,7 @@ fn ask<'a>(
     let kind = s.kind;
     let start = 0;
     let n = seen(kind, t);
-    let e = t.enums;
     if names.len() < n {
-        return 255;
-    }
-    if enums.len() < e {
         return 255;
     }
     let o = t.outputs;
@@ -160,7 +153,7 @@ fn ask<'a>(
         s.at,
         &outputs[start..o],
         &names[start..n],
-        &enums[start..e],
+        enums,
     )
 }
 
@@ -229,8 +222,8 @@ fn replay_with(
 
 // Judges every step.
 pub(crate) fn replay_steps(doc: &[u8], steps: &[u8], tally: Tally) -> Tally {
-    let mut names = [0usize; 1024];
-    let mut enums = [0usize; 512];
+    let mut names = [0usize; 1658];
+    let mut enums = [0usize; 829];
     let mut events = [0usize; 512];
     let mut outputs = [0usize; 512];
     replay_with(

@@ -48,6 +48,7 @@ pub use rows::events_of;
 pub use rows::field;
 pub use rows::outputs_of;
 pub use rows::word;
+pub use transition::Judged;
 pub use transition::judge_pattern;
 pub use whole::Ready;
 pub use whole::name_module;

@@ -62,8 +62,7 @@ fn put_words<'a>(
     requires { ⌜ Kept maxList (now doc) near ⌝ }
     requires { ⌜ length (now doc) ≤ 0xffff ⌝ }
     requires { ⌜ i ≤ 0xffff ⌝ }
-    requires { ⌜ 1020 ≤ length (now table) ⌝ }
-    requires { ⌜ known .enums ≤ length (now enums) ⌝ }
+    requires { ⌜ 1658 ≤ length (now table) ⌝ }
     requires { ⌜ known .claims ≤ length (now claims) ⌝ }
     requires { ⌜ at ≤ 0x1_0000 ⌝ }
     ensures { λ r. ⌜ r ≤ at + 0x7b_0000 ⌝ }
@@ -109,8 +108,7 @@ fn put_line<'a>(
     requires { ⌜ Kept maxList (now doc) near ⌝ }
     requires { ⌜ length (now doc) ≤ 0xffff ⌝ }
     requires { ⌜ i ≤ 0xffff ⌝ }
-    requires { ⌜ 1020 ≤ length (now table) ⌝ }
-    requires { ⌜ known .enums ≤ length (now enums) ⌝ }
+    requires { ⌜ 1658 ≤ length (now table) ⌝ }
     requires { ⌜ known .claims ≤ length (now claims) ⌝ }
     requires { ⌜ at ≤ 0xc000 ⌝ }
     ensures { λ r. ⌜ r ≤ at + 0x80_0000 ⌝ }
@@ -194,8 +192,7 @@ fn print_run<'a>(
     requires { ⌜ length (now doc) ≤ 0xffff ⌝ }
     requires { ⌜ all ≤ 0xffff ⌝ }
     requires { ⌜ k ≤ 0xffff ⌝ }
-    requires { ⌜ 1020 ≤ length (now table) ⌝ }
-    requires { ⌜ known .enums ≤ length (now enums) ⌝ }
+    requires { ⌜ 1658 ≤ length (now table) ⌝ }
     requires { ⌜ known .claims ≤ length (now claims) ⌝ }
     ensures { λ r. ⌜ r ≤ 0xffff ⌝ }
 {
@@ -250,8 +247,8 @@ fn print_named<'a>(
     requires { ⌜ length (now doc) ≤ 0xffff ⌝ }
     requires { ⌜ all ≤ 0xffff ⌝ }
     requires { ⌜ k ≤ 0xffff ⌝ }
-    requires { ⌜ 1020 ≤ length (now table) ⌝ }
-    requires { ⌜ 510 ≤ length (now enums) ⌝ }
+    requires { ⌜ 1658 ≤ length (now table) ⌝ }
+    requires { ⌜ length (now enums) ≡ 829 ⌝ }
     requires { ⌜ length (now claims) ≡ 1020 ⌝ }
     ensures { λ r. ⌜ r ≤ 0xffff ⌝ }
 {
@@ -293,8 +290,8 @@ fn print_at<'a>(
     requires { ⌜ k ≤ 0xffff ⌝ }
     requires { ⌜ 1033 ≤ length (now places) ⌝ }
     requires { ⌜ 2040 ≤ length (now rows) ⌝ }
-    requires { ⌜ 1020 ≤ length (now table) ⌝ }
-    requires { ⌜ 510 ≤ length (now enums) ⌝ }
+    requires { ⌜ 1658 ≤ length (now table) ⌝ }
+    requires { ⌜ length (now enums) ≡ 829 ⌝ }
     requires { ⌜ length (now claims) ≡ 1020 ⌝ }
     ensures { λ r. ⌜ r ≤ 0xffff ⌝ }
 {
@@ -336,8 +333,8 @@ fn print_module<'a>(
     requires { ⌜ k ≤ 0xffff ⌝ }
     requires { ⌜ 1033 ≤ length (now places) ⌝ }
     requires { ⌜ 2040 ≤ length (now rows) ⌝ }
-    requires { ⌜ 1020 ≤ length (now table) ⌝ }
-    requires { ⌜ 510 ≤ length (now enums) ⌝ }
+    requires { ⌜ 1658 ≤ length (now table) ⌝ }
+    requires { ⌜ length (now enums) ≡ 829 ⌝ }
     requires { ⌜ length (now claims) ≡ 1020 ⌝ }
     ensures { λ r. ⌜ r ≤ 0xffff ⌝ }
 {
@@ -368,8 +365,8 @@ fn print_all<'a>(doc: &'a [u8], words: &'a [u32], errors: usize, all: usize)
 {
     let mut places = [0usize; 1033];
     let mut rows = [0usize; 2040];
-    let mut table = [0usize; 1020];
-    let mut enums = [0usize; 510];
+    let mut table = [0usize; 1658];
+    let mut enums = [0usize; 829];
     let mut claims = [0usize; 1020];
     let mut page = [0u8; 20480];
     let mut near = Near::Nothing;

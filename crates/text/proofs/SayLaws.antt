@@ -235,20 +235,17 @@ module _ (s places rows : List ℕ) (count : ℕ) (found : Found) (names enums p
     unfolding saying
     plain-26 q p = plain-site 26 q (record { of = λ m g. p .of m (g .scene, (g .rows-are, g .count-is)) })
 
--- every site, by the words of the table that are the variables'
-module _ (s places rows : List ℕ) (count : ℕ) (found : Found) (table : List ℕ) (vars : ℕ) (enums properties : List ℕ) (site i j : ℕ) where
+-- every site, by the block of the table that has the variables
+module _ (s places rows : List ℕ) (count : ℕ) (found : Found) (table enums properties : List ℕ) (site i j : ℕ) where
   abbrev Whole : Module → Type 0
-  Whole = Tables s places rows count found (take (2 * vars) table) enums properties
+  Whole = Tables s places rows count found (take 829 table) enums properties
 
-  pub says-own : {r : Said} → 6 ≤ site → site ≤ 13 → SaysOwn (WithOwn s places rows count (take (2 * vars) table) enums) s site i j r → Says Whole s (saying site i j) r
+  pub says-own : {r : Said} → 6 ≤ site → site ≤ 13 → SaysOwn (WithOwn s places rows count (take 829 table) enums) s site i j r → Says Whole s (saying site i j) r
   says-own l u p = record { of = λ m g. p .of l u .of m ((g .scene, (g .rows-are, g .count-is)), g .agree) }
 
-  module _ {r : Said} (p : SaysPlain (Tables s places rows count found (take (2 * vars - 0) table) enums properties) s site i j r) where
-    whole : SaysPlain Whole s site i j r
-    whole = let q : 2 * vars - 0 ≡ 2 * vars = omega arith in subst (λ (k : ℕ). SaysPlain (Tables s places rows count found (take k table) enums properties) s site i j r) q p
-
+  module _ {r : Said} (p : SaysPlain Whole s site i j r) where
     pub says-below : site < 6 → Says Whole s (saying site i j) r
-    says-below h = whole .below (omega arith)
+    says-below h = p .below (omega arith)
 
     pub says-above : 13 < site → Says Whole s (saying site i j) r
-    says-above h = whole .above (omega arith)
+    says-above h = p .above (omega arith)

@@ -29,14 +29,13 @@ use Rattle.text.proofs.LineLaws.{reads-there}
 use Rattle.text.proofs.EntryReads.{entry-picked, entry-nothing, entry-given}
 
 -- the words of the tables that are in use
-pub named-said : (s places rows : List ℕ) (count : ℕ) (known : Ready) (table enums properties : List ℕ) {X : Module → Option Saying} {r : Said} → Says (Tables s places rows count (known .found) (take (2 * known .vars) table) (take (known .enums - 0) enums) (take (known .claims - 0) properties)) s X r → Says (Named s places rows count known table enums properties) s X r
+pub named-said : (s places rows : List ℕ) (count : ℕ) (known : Ready) (table enums properties : List ℕ) {X : Module → Option Saying} {r : Said} → Says (Tables s places rows count (known .found) (take 829 table) enums (take (known .claims - 0) properties)) s X r → Says (Named s places rows count known table enums properties) s X r
 named-said s places rows count known table enums properties h =
-    let i : known .enums - 0 ≡ known .enums = omega arith in
     let j : known .claims - 0 ≡ known .claims = omega arith in
-    rw (i, j) at h
+    rw j at h
 
 -- the tables are those of the module
-pub opened-said : (s : List ℕ) (at site i j : ℕ) {places rows table enums properties : List ℕ} {l : Listed} {known : Ready} {r : Said} → Opens s at l places rows → FirstStates s (getD places 3 0) (known .found) → Names s places (record { vars = known .vars; enums = known .enums; claims = known .claims }) table enums properties → Says (Named s places rows (l .count) known table enums properties) s (saying site i j) r → SaysIn s at site i j r
+pub opened-said : (s : List ℕ) (at site i j : ℕ) {places rows table enums properties : List ℕ} {l : Listed} {known : Ready} {r : Said} → Opens s at l places rows → FirstStates s (getD places 3 0) (known .found) → Names s places (known .claims) table enums properties → Says (Named s places rows (l .count) known table enums properties) s (saying site i j) r → SaysIn s at site i j r
 unfolding states
 opened-said s at site i j x y z w = record {
   of = λ m n g.

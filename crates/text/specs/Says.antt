@@ -185,9 +185,9 @@ pub record SaysPlain (H : Module → Type 0) (s : List ℕ) (site i j : ℕ) (r 
   pub below : site ≤ 5 → Says H s (saying site i j) r
   pub above : 14 ≤ site → Says H s (saying site i j) r
 
--- by the words of a table that are in use: so many of the enums, so many of the properties and assumptions
+-- by the words of a table that are in use: the first block of names, so many words of the properties and assumptions
 abbrev pub Named : List ℕ → List ℕ → List ℕ → ℕ → Ready → List ℕ → List ℕ → List ℕ → Module → Type 0
-Named s places rows count known table enums properties m = Tables s places rows count (known .found) (take (2 * known .vars) table) (take (known .enums) enums) (take (known .claims) properties) m
+Named s places rows count known table enums properties m = Tables s places rows count (known .found) (take 829 table) enums (take (known .claims) properties) m
 
 -- what is said of a finding in the module at a place
 pub record SaysIn (s : List ℕ) (at site i j : ℕ) (r : Said) : Type 0 where

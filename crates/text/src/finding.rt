@@ -38,13 +38,12 @@ pub fn put_finding<'a>(
 ) -> usize
     requires { ⌜ Kept maxList (now doc) near ⌝ }
     requires { ⌜ length (now doc) ≤ 0xffff ⌝ }
-    requires { ⌜ 1020 ≤ length (now table) ⌝ }
-    requires { ⌜ known .enums ≤ length (now enums) ⌝ }
+    requires { ⌜ 1658 ≤ length (now table) ⌝ }
     requires { ⌜ known .claims ≤ length (now claims) ⌝ }
     requires { ⌜ at ≤ 0x1_0000 ⌝ }
     ensures { λ r. ⌜ PutsFinding (Named (now (doc .entry)) (now (places .entry)) (now (rows .entry)) count known (now (table .entry)) (now (enums .entry)) (now (claims .entry))) site i j (now (out .entry)) at r (now (out .exit)) ⌝ }
     ensures { λ _. ⌜ length (now (table .exit)) ≡ length (now (table .entry)) ⌝ }
-    ensures { λ _. ⌜ take (2 * known .vars) (now (table .exit)) ≡ take (2 * known .vars) (now (table .entry)) ⌝ }
+    ensures { λ _. ⌜ take 829 (now (table .exit)) ≡ take 829 (now (table .entry)) ⌝ }
     ensures { λ _. ⌜ length (now (out .exit)) ≡ length (now (out .entry)) ⌝ }
     ensures { λ r. ⌜ r ≤ at + 0x7b_0000 ⌝ }
 {

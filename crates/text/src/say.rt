@@ -36,7 +36,6 @@ pub(crate) fn say_own<'a>(
     rows: &'a [usize],
     count: u8,
     table: &mut [usize],
-    vars: u8,
     enums: &'a [usize],
     site: u32,
     i: usize,
@@ -44,10 +43,10 @@ pub(crate) fn say_own<'a>(
     near: Near,
 ) -> Said
     requires { ⌜ Kept maxList (now doc) near ⌝ }
-    requires { ⌜ 1020 ≤ length (now table) ⌝ }
-    ensures { λ r. ⌜ SaysOwn (WithOwn (now (doc .entry)) (now (places .entry)) (now (rows .entry)) count (take (2 * vars) (now (table .entry))) (now (enums .entry))) (now (doc .entry)) site i j r ⌝ }
+    requires { ⌜ 1658 ≤ length (now table) ⌝ }
+    ensures { λ r. ⌜ SaysOwn (WithOwn (now (doc .entry)) (now (places .entry)) (now (rows .entry)) count (take 829 (now (table .entry))) (now (enums .entry))) (now (doc .entry)) site i j r ⌝ }
     ensures { λ _. ⌜ length (now (table .exit)) ≡ length (now (table .entry)) ⌝ }
-    ensures { λ _. ⌜ take (2 * vars) (now (table .exit)) ≡ take (2 * vars) (now (table .entry)) ⌝ }
+    ensures { λ _. ⌜ take 829 (now (table .exit)) ≡ take 829 (now (table .entry)) ⌝ }
 {
     if count as usize <= i {
         return Said::Nothing;
@@ -57,7 +56,7 @@ pub(crate) fn say_own<'a>(
         6 => say_state(doc, places, rows, t),
         7 => say_next(doc, places, rows, t),
         11 => say_set(doc, places, rows, t, j, near),
-        _ => say_judged(doc, places, rows, t, table, vars, enums, site, j, near),
+        _ => say_judged(doc, places, rows, t, table, enums, site, j, near),
     }
 }
 
@@ -182,7 +181,6 @@ pub(crate) fn say<'a>(
     count: u8,
     found: Found,
     table: &mut [usize],
-    vars: u8,
     enums: &'a [usize],
     claims: &'a [usize],
     site: u32,
@@ -191,14 +189,13 @@ pub(crate) fn say<'a>(
     near: Near,
 ) -> Said
     requires { ⌜ Kept maxList (now doc) near ⌝ }
-    requires { ⌜ 1020 ≤ length (now table) ⌝ }
-    ensures { λ r. ⌜ Says (Tables (now (doc .entry)) (now (places .entry)) (now (rows .entry)) count found (take (2 * vars) (now (table .entry))) (now (enums .entry)) (now (claims .entry))) (now (doc .entry)) (saying site i j) r ⌝ }
+    requires { ⌜ 1658 ≤ length (now table) ⌝ }
+    ensures { λ r. ⌜ Says (Tables (now (doc .entry)) (now (places .entry)) (now (rows .entry)) count found (take 829 (now (table .entry))) (now (enums .entry)) (now (claims .entry))) (now (doc .entry)) (saying site i j) r ⌝ }
     ensures { λ _. ⌜ length (now (table .exit)) ≡ length (now (table .entry)) ⌝ }
-    ensures { λ _. ⌜ take (2 * vars) (now (table .exit)) ≡ take (2 * vars) (now (table .entry)) ⌝ }
+    ensures { λ _. ⌜ take 829 (now (table .exit)) ≡ take 829 (now (table .entry)) ⌝ }
 {
-    let k = 2 * (vars as usize);
     if site < 6 {
-        let names = &table[0..k];
+        let names = &table[0..829];
         return say_plain(
             doc,
             places,
@@ -221,7 +218,6 @@ pub(crate) fn say<'a>(
             rows,
             count,
             table,
-            vars,
             enums,
             site,
             i,
@@ -229,7 +225,7 @@ pub(crate) fn say<'a>(
             near,
         );
     }
-    let names = &table[0..k];
+    let names = &table[0..829];
     say_plain(
         doc,
         places,

@@ -204,33 +204,31 @@ pub(crate) fn say_pattern<'a>(doc: &'a [u8], places: &'a [usize], i: u8, w: Blam
     two(Arg::Name(word(places, 0)), Arg::Number(i as u64), w)
 }
 
-// Sites 8, 9, 10, 12 and 13, of transition i. The table has two words for each of the module's variables; those of the pattern's
-// bindings go after them.
+// Sites 8, 9, 10, 12 and 13, of transition i. The first block of the table has the module's variables; the pattern's bindings go into the
+// second.
 pub(crate) fn say_judged<'a>(
     doc: &'a [u8],
     places: &'a [usize],
     rows: &'a [usize],
     i: u8,
     table: &mut [usize],
-    vars: u8,
     enums: &'a [usize],
     site: u32,
     j: usize,
     near: Near,
 ) -> Said
     requires { ⌜ Kept maxList (now doc) near ⌝ }
-    requires { ⌜ 1020 ≤ length (now table) ⌝ }
-    ensures { λ r. ⌜ SaysJudged (now (doc .entry)) (now (places .entry)) (now (rows .entry)) i (take (2 * vars) (now (table .entry))) (now (enums .entry)) site j r ⌝ }
+    requires { ⌜ 1658 ≤ length (now table) ⌝ }
+    ensures { λ r. ⌜ SaysJudged (now (doc .entry)) (now (places .entry)) (now (rows .entry)) i (take 829 (now (table .entry))) (now (enums .entry)) site j r ⌝ }
     ensures { λ _. ⌜ length (now (table .exit)) ≡ length (now (table .entry)) ⌝ }
-    ensures { λ _. ⌜ take (2 * vars) (now (table .exit)) ≡ take (2 * vars) (now (table .entry)) ⌝ }
+    ensures { λ _. ⌜ take 829 (now (table .exit)) ≡ take 829 (now (table .entry)) ⌝ }
 {
-    let k = 2 * (vars as usize);
-    let p = judge_pattern(doc, places, rows, i, table, k);
+    let p = judge_pattern(doc, places, rows, i, table);
     if site == 8 {
         let w = p.blame;
         return say_pattern(doc, places, i, w);
     }
-    let end = k + p.words;
+    let end = p.names;
     let names = &table[0..end];
     say_inside(doc, places, rows, i, names, enums, site, j, near)
 }

@@ -39,15 +39,13 @@ pub(crate) fn say_named<'a>(
     near: Near,
 ) -> Said
     requires { ⌜ Kept maxList (now doc) near ⌝ }
-    requires { ⌜ 1020 ≤ length (now table) ⌝ }
-    requires { ⌜ known .enums ≤ length (now enums) ⌝ }
+    requires { ⌜ 1658 ≤ length (now table) ⌝ }
     requires { ⌜ known .claims ≤ length (now claims) ⌝ }
     ensures { λ r. ⌜ Says (Named (now (doc .entry)) (now (places .entry)) (now (rows .entry)) count known (now (table .entry)) (now (enums .entry)) (now (claims .entry))) (now (doc .entry)) (saying site i j) r ⌝ }
     ensures { λ _. ⌜ length (now (table .exit)) ≡ length (now (table .entry)) ⌝ }
-    ensures { λ _. ⌜ take (2 * known .vars) (now (table .exit)) ≡ take (2 * known .vars) (now (table .entry)) ⌝ }
+    ensures { λ _. ⌜ take 829 (now (table .exit)) ≡ take 829 (now (table .entry)) ⌝ }
 {
     let found = known.found;
-    let a = known.enums;
     let b = known.claims;
     say(
         doc,
@@ -56,8 +54,7 @@ pub(crate) fn say_named<'a>(
         count,
         found,
         table,
-        known.vars,
-        &enums[0..a],
+        enums,
         &claims[0..b],
         site,
         i,
@@ -81,8 +78,8 @@ pub(crate) fn say_opened(
 ) -> Said
     requires { ⌜ 1033 ≤ length (now places) ⌝ }
     requires { ⌜ 2040 ≤ length (now rows) ⌝ }
-    requires { ⌜ 1020 ≤ length (now table) ⌝ }
-    requires { ⌜ 510 ≤ length (now enums) ⌝ }
+    requires { ⌜ 1658 ≤ length (now table) ⌝ }
+    requires { ⌜ length (now enums) ≡ 829 ⌝ }
     requires { ⌜ length (now claims) ≡ 1020 ⌝ }
     ensures { λ r. ⌜ SaysIn (now (doc .entry)) at site i j r ⌝ }
 {
@@ -110,8 +107,8 @@ pub(crate) fn say_in(doc: &[u8], at: usize, site: u32, i: usize, j: usize) -> Sa
 {
     let mut places = [0usize; 1033];
     let mut rows = [0usize; 2040];
-    let mut table = [0usize; 1020];
-    let mut enums = [0usize; 510];
+    let mut table = [0usize; 1658];
+    let mut enums = [0usize; 829];
     let mut claims = [0usize; 1020];
     say_opened(
         doc,

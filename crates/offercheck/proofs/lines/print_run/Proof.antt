@@ -33,7 +33,7 @@ print-run-spec =
     (λ c. search needs)
     (λ c. omega arith)
     (λ c κs. search needs)
-    (λ c κs. (search needs, (search needs, (omega arith, (search needs, (search needs, (search needs, omega arith)))))))
+    (λ c κs. (search needs, (search needs, (omega arith, (search needs, (search needs, omega arith))))))
     (λ c κs. search needs)
     (λ c. omega arith)
     (λ c. omega arith)

@@ -8,7 +8,7 @@ put-line-spec =
     tie.close
     (tie.spec
     (λ c κs. search needs)
-    (λ c κs. (search needs, (search needs, (search needs, (search needs, (search needs, (search needs, search needs)))))))
+    (λ c κs. (search needs, (search needs, (search needs, (search needs, (search needs, search needs))))))
     (λ c κs. search needs)
     (λ c. search needs)
     (λ c. search needs)

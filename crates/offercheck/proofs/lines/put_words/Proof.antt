@@ -18,7 +18,7 @@ put-words-spec =
     (λ c κs. search needs)
     (λ c. search needs)
     (λ c. search needs)
-    (λ c κs. (search needs, (search needs, (search needs, (search needs, (search needs, search needs))))))
+    (λ c κs. (search needs, (search needs, (search needs, (search needs, search needs)))))
     (λ c. search needs)
     (λ c. search needs)
     (λ c. search needs))

@@ -17,7 +17,7 @@ put-finding-spec =
     (λ c κs. search needs)
     (λ c. search needs)
     (λ c. (search finding-24, (search needs, (search needs, (search said-length, search needs)))))
-    (λ c κs. (search needs, (search needs, (search needs, search needs))))
+    (λ c κs. (search needs, (search needs, search needs)))
     (λ c κs. search needs)
     (λ c. search needs)
     (λ c. search needs)

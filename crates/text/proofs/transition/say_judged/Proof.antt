@@ -1,4 +1,4 @@
--- The words of the bindings, after those of the variables, mean what the pattern binds.
+-- By the names with those that the pattern binds.
 use borrow.Author.Needs.{needs}
 use native.Mathlib.Omega.{arith}
 use Rattle.text.proofs.JudgedLaws.{judged-pattern, judged-inside}
@@ -9,12 +9,10 @@ pub say-judged-spec : {M : Type 1} → statement M
 say-judged-spec =
     tie.close
     (tie.spec
-    (λ c. search needs)
     (λ c κs. search needs)
     (λ c κs. search needs)
     (λ c. search needs)
     (λ c. (search judged-pattern, (omega arith, search needs)))
-    (λ c. search needs)
     (λ c. search needs)
     (λ c. search needs)
     (λ c. search needs)

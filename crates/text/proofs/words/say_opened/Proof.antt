@@ -11,7 +11,7 @@ say-named-requires c κs =
     let n = c .before .before .before .before .before .before .before .before .before .before .before in
     let p = n .before .before .before .before .before .before .before .before .before .before .before .before .before .before .before .before .before .before .pre in
     let e = n .name-module .ensures in
-    (search kept-none, (omega (arith, p .1 .1 .0), (omega (arith, p .1 .1 .1 .0, e .1 .1 .0), omega (arith, p .1 .1 .1 .1, e .1 .1 .1))))
+    (search kept-none, (omega (arith, p .1 .1 .0), omega (arith, p .1 .1 .1 .1, e .1 .1)))
 
 pub say-opened-spec : {M : Type 1} → statement M
 say-opened-spec =
