@@ -147,14 +147,7 @@ fn ask<'a>(
     if outputs.len() < o {
         return 255;
     }
-    number_of(
-        doc,
-        kind,
-        s.at,
-        &outputs[start..o],
-        &names[start..n],
-        enums,
-    )
+    number_of(doc, kind, s.at, &outputs[start..o], &names[start..n], enums)
 }
 
 fn advance(

@@ -36,7 +36,7 @@ fn judge_module<'a>(
     count: u8,
     found: Found,
     table: &mut [usize],
-enums: &'a [usize],
+    enums: &'a [usize],
     claims: &'a [usize],
     out: &mut [u32],
     skip: usize,

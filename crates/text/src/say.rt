@@ -212,18 +212,7 @@ pub(crate) fn say<'a>(
         );
     }
     if site <= 13 {
-        return say_own(
-            doc,
-            places,
-            rows,
-            count,
-            table,
-            enums,
-            site,
-            i,
-            j,
-            near,
-        );
+        return say_own(doc, places, rows, count, table, enums, site, i, j, near);
     }
     let names = &table[0..829];
     say_plain(

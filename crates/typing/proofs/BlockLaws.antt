@@ -186,7 +186,7 @@ module _ (s pairs T : List ℕ) (o k : ℕ) (n : Name) (few : k ≤ 255) (same :
       let g = w .link-low i m in
       let o′ = ap (laneIn s T o) (sym z) ∙ on (omega arith) in
       let v = along f (linkIn T o i) (omega arith) (omega arith) (λ x. w .link-on i m x ∙ o′)
-          ∙ find-past 64 s pairs n (linkIn T o i) i g (λ j a b q. w .link-last i j m b a (lane-same j (omega arith) ∙ q ∙ sym o′)) in
+      ∙ find-past 64 s pairs n (linkIn T o i) i g (λ j a b q. w .link-last i j m b a (lane-same j (omega arith) ∙ q ∙ sym o′)) in
       rw (ne-eqb (suc i) 0 (λ (e : suc i ≡ 0). omega arith), le-ltb 255 (suc i) (omega arith), z, same (2 * i) (omega arith), under-same i m, v)
 
   block-finds : blockFind s n T o ≡ findFirst s n pairs k
