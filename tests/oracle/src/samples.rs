@@ -96,8 +96,12 @@ pub fn costly() -> Vec<Sample> {
         ("bindings", bindings()),
         ("sets", sets()),
         ("mentions", mentions()),
+        ("lane", one_lane()),
         ("bound", bound()),
+        ("inits", inits()),
         ("variants", variants()),
+        ("lengths", lengths()),
+        ("states", states()),
     ];
     let sample = |(name, ir)| Sample {
         name,
@@ -233,6 +237,25 @@ fn mentions() -> Ir {
     }])
 }
 
+/// The same of 255 variables whose names the port has on one of its 64 lanes,
+/// 3,600 times.
+fn one_lane() -> Ir {
+    let print = |h: u32, b: u8| h.wrapping_mul(16_777_619).wrapping_add(b.into());
+    let lane = |n: &String| n.bytes().fold(0, print) % 64;
+    let names = (0..).map(|k| format!("v{k:05}")).filter(|n| lane(n) == 0);
+    let vars: Vec<VarDecl> = names.take(255).map(|n| var(&n, bit(8), int(0))).collect();
+    let first = path(&[vars[0].name.as_str()]);
+    let less = binary(BinOp::Lt, first.clone(), first);
+    ir(vec![Module {
+        vars,
+        transitions: vec![Transition {
+            guard: Some(joined(BinOp::LogicOr, vec![less; 1_800])),
+            ..mixed_step(2)
+        }],
+        ..mixed("Link", 0, 1)
+    }])
+}
+
 /// 16 transitions that set one of 255 variables 255 times each.
 fn sets() -> Ir {
     let step = |place: usize| Transition {
@@ -287,20 +310,59 @@ fn bound() -> Ir {
     }])
 }
 
+/// 12 modules of 255 variables, each with the first as its first value.
+fn inits() -> Ir {
+    let named = |n: &String| var(n, bit(8), path(&["v000"]));
+    twelve(Module {
+        vars: names("v").iter().map(named).collect(),
+        ..mixed("M", 0, 0)
+    })
+}
+
 /// One transition whose guard names the last of 255 variants 3,200 times.
 fn variants() -> Ir {
-    let names = names("m");
+    last_of(&names("m"), 1_600)
+}
+
+/// The same of names of four to six bytes, 2,800 times.
+fn lengths() -> Ir {
+    let longer = |(k, n): (usize, String)| n + &"xx"[..k * k % 7 % 3];
+    let all: Vec<String> = names("m").into_iter().enumerate().map(longer).collect();
+    last_of(&all, 1_400)
+}
+
+/// One transition whose guard is so many equalities of the last of some
+/// variants with itself.
+fn last_of(names: &[String], many: usize) -> Ir {
     let listed: Vec<&str> = names.iter().map(String::as_str).collect();
-    let last = path(&["Mode", "m254"]);
+    let last = path(&["Mode", listed[listed.len() - 1]]);
     let equal = binary(BinOp::Eq, last.clone(), last);
     let step = Transition {
-        guard: Some(joined(BinOp::LogicOr, vec![equal; 1_600])),
+        guard: Some(joined(BinOp::LogicOr, vec![equal; many])),
         ..mixed_step(2)
     };
     ir(vec![Module {
         enums: vec![enum_decl("State", &STATES), enum_decl("Mode", &listed)],
         transitions: vec![step],
         ..mixed("Link", 0, 1)
+    }])
+}
+
+/// One transition whose guard names the last of 255 states 2,500 times.
+fn states() -> Ir {
+    let names = names("s");
+    let listed: Vec<&str> = names.iter().map(String::as_str).collect();
+    let there = binary(BinOp::Eq, path(&["state"]), path(&["s254"]));
+    let step = Transition {
+        guard: Some(joined(BinOp::LogicOr, vec![there; 2_500])),
+        ..mixed_step(2)
+    };
+    ir(vec![Module {
+        enums: vec![enum_decl("State", &listed)],
+        initial_state: Some(text("s000")),
+        vars: Vec::new(),
+        transitions: vec![step],
+        ..mixed("Link", 0, 0)
     }])
 }
 
