@@ -1,10 +1,9 @@
 -- What is noted of an assignment and of a list of them, for whatever reads there.
-use Prim.Native.Nat.{ℕ, _+_, _/_, _<_, _≤_}
+use Prim.Native.Nat.{ℕ, _+_, _<_, _≤_}
 use mathlib.Core.Path.{_≡_, refl, sym, ap, _∙_}
 use mathlib.Core.List.{List, [], _∷_}
 use mathlib.Core.Bool.{true, false}
 use mathlib.Core.Option.{Option, none, some}
-use lib.ListN.{length}
 use Rattle.reading.specs.Limits.{maxList}
 use Rattle.reading.specs.Item.{readCount}
 use Rattle.reading.specs.Text.{Name}
@@ -20,7 +19,7 @@ use Rattle.reading.proofs.TransitionLaws.{assignment-laws}
 use Rattle.reading.proofs.Views.{assignment-at}
 use Rattle.reading.proofs.Walks.{name-text}
 use Rattle.typing.specs.Env.{Env, given, Agree}
-use Rattle.typing.specs.Table.{afterItem, afterHead, findFirst, found, Past}
+use Rattle.typing.specs.Table.{afterItem, afterHead, found, Past}
 use Rattle.typing.specs.Blocks.{findIn, envAt}
 use Rattle.typing.specs.declared.table.Found.{Found}
 use Rattle.typing.specs.declared.table.Found.the-variants.{At, Nothing}

@@ -5,7 +5,7 @@ use crate::pairs::note_pairs;
 use crate::transition::note_moves;
 use typing::Found;
 ghost use mathlib.Core.Path.{_≡_};
-ghost use Prim.Native.Nat.{_+_, _*_, _≤_, _^_};
+ghost use Prim.Native.Nat.{_+_, _≤_, _^_};
 ghost use lib.ListN.{length, take};
 ghost use Rattle.findings.specs.ModulePromises.{NotesFore, NotesMost, NotesClosing, NotesErrors};
 

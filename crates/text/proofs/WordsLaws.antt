@@ -1,5 +1,5 @@
 -- The message of a finding, by its words: its module among all, the tables of that module, and what is said by them.
-use Prim.Native.Nat.{ℕ, _-_, _*_}
+use Prim.Native.Nat.{ℕ, _-_}
 use mathlib.Core.Path.{_≡_, ap, _∙_}
 use mathlib.Core.List.{List}
 use mathlib.Core.Option.{Option}

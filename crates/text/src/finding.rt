@@ -13,7 +13,7 @@ use typing::Found;
 use typing::after;
 use typing::after_head;
 ghost use mathlib.Core.Path.{_≡_};
-ghost use Prim.Native.Nat.{_+_, _*_, _≤_};
+ghost use Prim.Native.Nat.{_+_, _≤_};
 ghost use lib.ListN.{length, take};
 ghost use Rattle.reading.specs.Limits.{maxList};
 ghost use Rattle.text.specs.Near.{Kept};

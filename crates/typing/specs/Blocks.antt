@@ -1,7 +1,7 @@
 -- Tables of blocks. A block holds up to 255 pairs of places, of a name and of what is declared under it, on 64 lanes by the name's print. It has
 -- 829 words: the pairs, then a head for each lane, then a link for each pair. A head or a link is one more than a pair's number; a lane ends
 -- where there is no such pair. The pairs of a lane are looked through from the last on, and so are the blocks of a table.
-use Prim.Native.Nat.{ℕ, zero, suc, _+_, _-_, _*_, _/_, _%_, _<_, _≤_}
+use Prim.Native.Nat.{ℕ, zero, suc, _+_, _-_, _*_, _/_, _%_, _<_}
 use mathlib.Core.Path.{_≡_}
 use mathlib.Core.List.{List}
 use mathlib.Core.Option.{Option, none, some}

@@ -8,7 +8,7 @@ use crate::table::Found;
 use reading::text_at;
 ghost use mathlib.Core.Path.{_≡_};
 ghost use Prim.Native.Nat.{_+_, _*_, _%_, _<_, _≤_};
-ghost use lib.ListN.{length, take};
+ghost use lib.ListN.{length};
 ghost use Rattle.typing.specs.Table.{found, pairsAt};
 ghost use Rattle.typing.specs.Lanes.{print};
 ghost use Rattle.typing.specs.Blocks.{BlockWoven, blockFind, findIn, Keeps, Weaves, Clears};

@@ -1,5 +1,4 @@
 -- By where the pattern and the groups of events stand.
-use native.Mathlib.Omega.{arith}
 use borrow.Author.Needs.{needs}
 use Rattle.findings.proofs.TransitionLaws.{judged-at}
 use Rattle.findings.proofs.transition.bind_pattern.Statement.{statement}

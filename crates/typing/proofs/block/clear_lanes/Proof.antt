@@ -1,8 +1,7 @@
 -- Lane by lane: those before are empty.
-use Prim.Native.Nat.{_+_, _-_, _≤_}
+use Prim.Native.Nat.{_-_, _≤_}
 use native.Mathlib.Omega.{arith}
 use borrow.Author.Needs.{needs}
-use lib.ListN.{length}
 use Rattle.typing.specs.Blocks.{Clears}
 use Rattle.typing.proofs.BlockLaws.{clears-none, clears-more, clears-all}
 use Rattle.typing.proofs.block.clear_lanes.Statement.{statement}

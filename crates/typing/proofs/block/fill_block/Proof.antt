@@ -1,8 +1,6 @@
 -- The pairs are put on their lanes after they were filled in.
-use mathlib.Core.Path.{_∙_}
 use borrow.Author.Needs.{needs}
 use native.Mathlib.Omega.{arith}
-use lib.Seq.{length-sets}
 use Rattle.typing.proofs.BlockLaws.{list-filled, fills-size}
 use Rattle.typing.proofs.block.fill_block.Statement.{statement}
 use Rattle.typing.proofs.block.fill_block.Tie as tie
