@@ -9,7 +9,7 @@ ghost use Prim.Native.Nat.{_+_, _≤_, _^_};
 ghost use lib.ListN.{length, take};
 ghost use Rattle.findings.specs.ModulePromises.{NotesFore, NotesMost, NotesClosing, NotesErrors};
 
-// Sites 1 to 13. The table has two words for each of the module's variables.
+// Sites 1 to 13. The first block of the table has the module's variables.
 fn note_fore<'a>(
     doc: &'a [u8],
     places: &'a [usize],

@@ -173,7 +173,7 @@ pub(crate) fn say_plain<'a>(
     }
 }
 
-// Every site. The table has two words for each of the module's variables, and room for the bindings of a pattern.
+// Every site. The first block of the table has the module's variables, and the second room for the bindings of a pattern.
 pub(crate) fn say<'a>(
     doc: &'a [u8],
     places: &'a [usize],

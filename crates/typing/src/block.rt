@@ -1,5 +1,5 @@
-// Tables of blocks, made once for a module: names and what is declared under each, as pairs of places on lanes. A block has 829 words: 255
-// pairs, 64 heads of lanes, and 255 links.
+// Tables of blocks: names and what is declared under each, as pairs of places on lanes. A block has 829 words: 255 pairs, 64 heads of
+// lanes, and 255 links.
 use crate::fill::fill_table;
 use crate::fill::store;
 use crate::lanes::print_bytes;
