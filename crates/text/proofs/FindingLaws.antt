@@ -1,16 +1,18 @@
 -- A message that is put is what the definition says, and the lent bytes keep their length.
-use Prim.Native.Nat.{ℕ}
-use mathlib.Core.Path.{_≡_, sym, ap, subst, _∙_}
+use Prim.Native.Nat.{ℕ, _-_}
+use mathlib.Core.Path.{_≡_, refl, sym, ap, subst, _∙_}
 use mathlib.Core.List.{List}
 use mathlib.Core.Option.{Option}
-use lib.ListN.{length}
+use lib.ListN.{length, take}
 use lib.Seq.{length-sets}
 use Rattle.findings.specs.declared.whole.Ready.{Ready}
 use Rattle.reading.specs.Module.{Module}
+use Rattle.findings.proofs.GroupTables.{front-cut}
 use Rattle.text.specs.Put.{Put}
-use Rattle.text.specs.Message.{Saying, saying, sayingText, pairSaid, prioritySaid}
+use Rattle.findings.specs.Scene.{Scene}
+use Rattle.text.specs.Message.{Saying, saying, sayingText, setSaid, prioritySaid, pairSaid, claimSaid, eventSaid, varSaid}
 use Rattle.text.specs.Said.{sayingOf}
-use Rattle.text.specs.Says.{WithRows, Named, Says, PutsSaid, PutsFinding}
+use Rattle.text.specs.Says.{WithRows, WithClaims, Named, Says, PutsSaid, PutsFinding}
 use Rattle.text.specs.declared.said.Said.{Said}
 
 pub finding-put : (H : Module → Type 0) (s : List ℕ) (site i j : ℕ) {x : Said} {o : List ℕ} {at r : ℕ} {o′ : List ℕ} → Says H s (saying site i j) x → Put o at (sayingText site (sayingOf s x)) r o′ → PutsFinding H site i j o at r o′
@@ -21,29 +23,57 @@ finding-put H s site i j {o = o} {at = at} {r = r} {o′ = o′} p q = record {
 pub put-length : {o : List ℕ} {at : ℕ} {bs : List ℕ} {r : ℕ} {o′ : List ℕ} → Put o at bs r o′ → length o′ ≡ length o
 put-length {o} {at} {bs} p = ap length (p .bytes) ∙ length-sets o at bs
 
--- the messages of two transitions
+-- sites 15 and 24
 pub first-of-two : {site : ℕ} → site ≡ 15 → (site ≡ 15 → ⊥) → site ≡ 24
 first-of-two e n = absurd (n e)
 
-module _ (s places rows : List ℕ) (count : ℕ) (known : Ready) (table enums properties : List ℕ) (site i j : ℕ) {o : List ℕ} {at r : ℕ} {o′ : List ℕ} (p : PutsSaid (Says (WithRows s places rows count) s (pairSaid i j)) s site o at r o′) where
+-- what X says is the message of site k, and the tables of the module have what X asks for
+module _ (s places rows : List ℕ) (count : ℕ) (known : Ready) (table enums properties : List ℕ) where
   abbrev Known : Module → Type 0
   Known = Named s places rows count known table enums properties
 
-  finding-two : ((m : Module) → saying site i j m ≡ pairSaid i j m) → PutsFinding Known site i j o at r o′
-  finding-two e = finding-put Known s site i j (record { of = λ m h. p .says .of m (h .scene, (h .rows-are, h .count-is)) ∙ sym (e m) }) (p .put)
+  with-rows : (m : Module) → Known m → WithRows s places rows count m
+  with-rows m h = (h .scene, (h .rows-are, h .count-is))
 
-  pub finding-15 : site ≡ 15 → PutsFinding Known site i j o at r o′
-  unfolding saying
-  finding-15 e = finding-two λ m. rw e
+  module _ (site i j : ℕ) {o : List ℕ} {at r : ℕ} {o′ : List ℕ} where
+    finding-of : (H : Module → Type 0) (X : Module → Option Saying) (k : ℕ) → ((m : Module) → Known m → H m) → ((m : Module) → saying k i j m ≡ X m) → PutsSaid (Says H s X) s k o at r o′ → site ≡ k → PutsFinding Known site i j o at r o′
+    finding-of H X k f x p e =
+        subst (λ (z : ℕ). PutsFinding Known z i j o at r o′) (sym e)
+        (finding-put Known s k i j (record { of = λ m h. p .says .of m (f m h) ∙ sym (x m) }) (p .put))
 
-  pub finding-24 : site ≡ 24 → PutsFinding Known site i j o at r o′
-  unfolding saying
-  finding-24 e = finding-two λ m. rw e
+    pub finding-11 : PutsSaid (Says (WithRows s places rows count) s (setSaid i j)) s 11 o at r o′ → site ≡ 11 → PutsFinding Known site i j o at r o′
+    unfolding saying
+    finding-11 = finding-of (WithRows s places rows count) (setSaid i j) 11 with-rows (λ m. refl)
 
-pub finding-14 : (s places rows : List ℕ) (count : ℕ) (known : Ready) (table enums properties : List ℕ) (site i j : ℕ) {o : List ℕ} {at r : ℕ} {o′ : List ℕ} → PutsSaid (Says (WithRows s places rows count) s (prioritySaid i j)) s 14 o at r o′ → site ≡ 14 → PutsFinding (Named s places rows count known table enums properties) site i j o at r o′
-unfolding saying
-finding-14 s places rows count known table enums properties site i j p e = rw e (
-    finding-put (Named s places rows count known table enums properties) s 14 i j (record { of = λ m h. p .says .of m (h .scene, (h .rows-are, h .count-is)) }) (p .put))
+    pub finding-14 : PutsSaid (Says (WithRows s places rows count) s (prioritySaid i j)) s 14 o at r o′ → site ≡ 14 → PutsFinding Known site i j o at r o′
+    unfolding saying
+    finding-14 = finding-of (WithRows s places rows count) (prioritySaid i j) 14 with-rows (λ m. refl)
+
+    pub finding-18 : PutsSaid (Says (WithClaims s places (take (known .claims - 0) properties)) s (claimSaid i)) s 18 o at r o′ → site ≡ 18 → PutsFinding Known site i j o at r o′
+    unfolding saying
+    finding-18 p = finding-of (WithClaims s places (take (known .claims) properties)) (claimSaid i) 18 (λ m h. (h .scene, h .claims-are)) (λ m. refl) (rw (sym (front-cut properties (known .claims))) p)
+
+    pub finding-22 : PutsSaid (Says (Scene s places) s (eventSaid i j)) s 22 o at r o′ → site ≡ 22 → PutsFinding Known site i j o at r o′
+    unfolding saying
+    finding-22 = finding-of (Scene s places) (eventSaid i j) 22 (λ m h. h .scene) (λ m. refl)
+
+    pub finding-23 : PutsSaid (Says (Scene s places) s (varSaid i)) s 23 o at r o′ → site ≡ 23 → PutsFinding Known site i j o at r o′
+    unfolding saying
+    finding-23 = finding-of (Scene s places) (varSaid i) 23 (λ m h. h .scene) (λ m. refl)
+
+    -- those of two transitions
+    module _ (p : PutsSaid (Says (WithRows s places rows count) s (pairSaid i j)) s site o at r o′) where
+      finding-two : (k : ℕ) → ((m : Module) → saying k i j m ≡ pairSaid i j m) → site ≡ k → PutsFinding Known site i j o at r o′
+      finding-two k x e =
+          finding-of (WithRows s places rows count) (pairSaid i j) k with-rows x (subst (λ (z : ℕ). PutsSaid (Says (WithRows s places rows count) s (pairSaid i j)) s z o at r o′) e p) e
+
+      pub finding-15 : site ≡ 15 → PutsFinding Known site i j o at r o′
+      unfolding saying
+      finding-15 = finding-two 15 (λ m. refl)
+
+      pub finding-24 : site ≡ 24 → PutsFinding Known site i j o at r o′
+      unfolding saying
+      finding-24 = finding-two 24 (λ m. refl)
 
 pub said-length : {S : Said → Type 0} {s : List ℕ} {site : ℕ} {o : List ℕ} {at r : ℕ} {o′ : List ℕ} → PutsSaid S s site o at r o′ → length o′ ≡ length o
 said-length p = put-length (p .put)

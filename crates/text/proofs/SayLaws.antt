@@ -10,7 +10,7 @@ use Rattle.reading.specs.Transition.{Transition}
 use Rattle.typing.specs.declared.table.Found.{Found}
 use Rattle.findings.specs.Scene.{Scene, Rows, RowAt}
 use Rattle.findings.proofs.PlaceLaws.{entry-past, entry-at}
-use Rattle.text.specs.Message.{Saying, saying, sayings, ofGiven, ofEntry, ofModule, initialSaid, versionSaid, initSaid, varSaid, errorNextSaid, errorEmitSaid, claimSaid, formulaSaid, variantSaid, eventSaid, prioritySaid, pairSaid, idSaid, clashSaid}
+use Rattle.text.specs.Message.{Saying, saying, sayings, ofGiven, ofEntry, ofModule, initialSaid, versionSaid, initSaid, varSaid, setSaid, errorNextSaid, errorEmitSaid, claimSaid, formulaSaid, variantSaid, eventSaid, prioritySaid, pairSaid, idSaid, clashSaid}
 use Rattle.text.specs.Said.{sayingOf}
 use Rattle.text.specs.Says.{WithNames, WithClaims, WithFormulas, WithStates, WithRows, WithOwn, Tables, Says, SaysState, SaysNext, SaysSet, SaysId, SaysClash, SaysPriority, SaysPair, SaysJudged, SaysOwn, SaysPlain}
 use Rattle.text.specs.declared.said.Said.{Said}
@@ -34,6 +34,9 @@ module _ (s places rows : List ℕ) (count i : ℕ) where
     pub clash-past : Says (WithRows s places rows count) s (clashSaid i) Nothing
     clash-past = record { of = λ m g. no-row s rows (m .transitions) (g .1 .1) _ h }
 
+    pub set-past : (j : ℕ) → Says (WithRows s places rows count) s (setSaid i j) Nothing
+    set-past j = record { of = λ m g. no-row s rows (m .transitions) (g .1 .1) _ h }
+
     pub priority-past : (j : ℕ) → Says (WithRows s places rows count) s (prioritySaid i j) Nothing
     priority-past j = record { of = λ m g. no-row s rows (m .transitions) (g .1 .1) _ h }
 
@@ -46,6 +49,9 @@ module _ (s places rows : List ℕ) (count i : ℕ) where
 
     pub clash-there : {r : Said} → SaysClash s places rows i r → Says (WithRows s places rows count) s (clashSaid i) r
     clash-there p = record { of = λ m g. in-row s rows (m .transitions) (g .1 .1) _ h (g .1 .0) λ t w. p .of m t (g .0) w }
+
+    pub set-there : (j : ℕ) {r : Said} → SaysSet s places rows i j r → Says (WithRows s places rows count) s (setSaid i j) r
+    set-there j p = record { of = λ m g. in-row s rows (m .transitions) (g .1 .1) _ h (g .1 .0) λ t w. p .of m t (g .0) w }
 
     -- and transition j
     module _ (j : ℕ) where

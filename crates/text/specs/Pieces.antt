@@ -3,6 +3,7 @@ use mathlib.Core.List.{List, _++_}
 use Prim.Native.Nat.{ℕ}
 use Rattle.reading.specs.Text.{Name}
 use Rattle.text.specs.Form.{text}
+use Rattle.text.specs.Put.{Put}
 
 -- in which module and state they are
 unfoldable pub inState : Name → Name → List ℕ
@@ -22,3 +23,7 @@ inModule n = text "module '" ++ n
 
 unfoldable pub inTransition : List ℕ → List ℕ → List ℕ
 inTransition n i = inModule n ++ text "' transition #" ++ i
+
+-- an entry's name is put with bytes before and behind it
+pub record PutWithin (o : List ℕ) (at : ℕ) (p : List ℕ) (n : Name) (q : List ℕ) (r : ℕ) (o′ : List ℕ) : Type 0 where
+  pub put : Put o at (p ++ n ++ q) r o′

@@ -2,6 +2,10 @@
 use crate::aft::variants_of;
 use crate::entry::Near;
 use crate::entry::look_up;
+use crate::listed::put_claim_at;
+use crate::listed::put_event_at;
+use crate::listed::put_set_at;
+use crate::listed::put_var_at;
 use crate::pieces::put_pair_at;
 use crate::pieces::put_priority_at;
 use crate::site::put_said;
@@ -55,6 +59,19 @@ pub fn put_finding<'a>(
     }
     if site == 24 {
         return put_pair_at(doc, places, rows, count, site, i, j, out, at);
+    }
+    if site == 11 {
+        return put_set_at(doc, places, rows, count, i, j, near, out, at);
+    }
+    if site == 18 {
+        let b = known.claims;
+        return put_claim_at(doc, places, &claims[0..b], i, out, at);
+    }
+    if site == 22 {
+        return put_event_at(doc, places, i, j, near, out, at);
+    }
+    if site == 23 {
+        return put_var_at(doc, places, i, near, out, at);
     }
     let x = say_named(
         doc,

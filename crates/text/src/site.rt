@@ -1,10 +1,6 @@
 // What is said at a site, in the words of validator.rs.
 use crate::cause::put_blame;
 use crate::form::put_form;
-use crate::listed::put_dead;
-use crate::listed::put_repeated;
-use crate::listed::put_unknown;
-use crate::listed::put_unused;
 use crate::said::Arg;
 use crate::said::Said;
 ghost use Prim.Native.Nat.{_+_, _≤_};
@@ -91,7 +87,13 @@ fn put_transition_site(out: &mut [u8], at: usize, doc: &[u8], site: u32, args: [
             b"module '{}' transition #{}: guard must be bool: guard must be bool, found {}",
             args,
         ),
-        11 => put_unknown(out, at, doc, args),
+        11 => put_form(
+            out,
+            at,
+            doc,
+            b"module '{}' transition #{}: set unknown variable '{}'",
+            args,
+        ),
         12 => put_form(
             out,
             at,
@@ -132,7 +134,13 @@ fn put_claim_site(out: &mut [u8], at: usize, doc: &[u8], site: u32, args: [Arg; 
             args,
         ),
         17 => put_form(out, at, doc, b"module '{}' on_error emit: ", args),
-        18 => put_repeated(out, at, doc, args),
+        18 => put_form(
+            out,
+            at,
+            doc,
+            b"module '{}' has duplicate property/assumption name '{}'",
+            args,
+        ),
         19 => put_form(out, at, doc, b"module '{}' property '{}': ", args),
         _ => put_form(
             out,
@@ -158,8 +166,20 @@ fn put_warning_site(out: &mut [u8], at: usize, doc: &[u8], site: u32, args: [Arg
             b"module '{}': state '{}' is unreachable from the initial state",
             args,
         ),
-        22 => put_dead(out, at, doc, args),
-        23 => put_unused(out, at, doc, args),
+        22 => put_form(
+            out,
+            at,
+            doc,
+            b"module '{}': event '{}' is never used in any transition pattern (dead event)",
+            args,
+        ),
+        23 => put_form(
+            out,
+            at,
+            doc,
+            b"module '{}': variable '{}' is never read or written (unused)",
+            args,
+        ),
         24 => put_form(
             out,
             at,

@@ -10,7 +10,7 @@ unfolding inModule
 returns c =
     let c2 = c .before .before in
     let c1 = c2 .before .before .before .before in
-    (c1 .put-bytes .ensures then c2 .put-arg .ensures .0, search needs)
+    (c1 .put-bytes .ensures then c2 .put-text .ensures .0, search needs)
 
 pub put-module-spec : {M : Type 1} → statement M
 put-module-spec =

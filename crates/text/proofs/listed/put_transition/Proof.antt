@@ -11,7 +11,7 @@ returns c =
     let c3 = c .before .before in
     let c2 = c3 .before .before .before .before in
     let c1 = c2 .before .before .before .before .before in
-    (c1 .put-module .ensures .0 then c2 .put-bytes .ensures then c3 .put-arg .ensures .0, search needs)
+    (c1 .put-module .ensures .0 then c2 .put-bytes .ensures then c3 .put-decimal .ensures .0, search needs)
 
 pub put-transition-spec : {M : Type 1} → statement M
 put-transition-spec =

@@ -37,15 +37,15 @@ returns-5 : tie.Need-returns-5
 unfolding siteForm
 returns-5 c =
     let p = c .before .before in
-    let m = p .before .before .match in
-    (at-site _ 18 (m .keys5) (p .put-repeated .ensures .0), p .put-repeated .ensures .1)
+    let m = p .before .before .before .match in
+    (at-site _ 18 (m .keys5) (p .put-form5 .ensures .0), p .put-form5 .ensures .1)
 
 returns-6 : tie.Need-returns-6
 unfolding siteForm
 returns-6 c =
     let p = c .before .before in
     let m = p .before .before .before .match in
-    (at-site _ 19 (m .keys6) (p .put-form5 .ensures .0), p .put-form5 .ensures .1)
+    (at-site _ 19 (m .keys6) (p .put-form6 .ensures .0), p .put-form6 .ensures .1)
 
 returns-7 : tie.Need-returns-7
 unfolding siteForm
@@ -54,7 +54,7 @@ returns-7 c =
     let m = p .before .before .before .match in
     let a = p .before .before .before .before .before .before .pre in
     let q = m .rest in
-    (at-last _ 20 (up 19 (up 18 (up 17 (up 16 (up 15 (up 14 (a .2) (q .0 .0 .0 .0 .0 .1)) (q .0 .0 .0 .0 .1)) (q .0 .0 .0 .1)) (q .0 .0 .1)) (q .0 .1)) (q .1)) (a .3) (p .put-form6 .ensures .0), p .put-form6 .ensures .1)
+    (at-last _ 20 (up 19 (up 18 (up 17 (up 16 (up 15 (up 14 (a .2) (q .0 .0 .0 .0 .0 .1)) (q .0 .0 .0 .0 .1)) (q .0 .0 .0 .1)) (q .0 .0 .1)) (q .0 .1)) (q .1)) (a .3) (p .put-form7 .ensures .0), p .put-form7 .ensures .1)
 
 pub put-claim-site-spec : {M : Type 1} → statement M
 put-claim-site-spec =
@@ -68,6 +68,7 @@ put-claim-site-spec =
     (λ c κs. search needs)
     (λ c. search needs)
     (λ c κs. search needs)
+    (λ c. search needs)
     (λ c κs. search needs)
     (λ c. search needs)
     (λ c κs. search needs)

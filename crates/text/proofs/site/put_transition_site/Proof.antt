@@ -44,15 +44,15 @@ returns-6 : tie.Need-returns-6
 unfolding siteForm
 returns-6 c =
     let p = c .before .before in
-    let m = p .before .before .match in
-    (at-site _ 11 (m .keys6) (p .put-unknown .ensures .0), p .put-unknown .ensures .1)
+    let m = p .before .before .before .match in
+    (at-site _ 11 (m .keys6) (p .put-form6 .ensures .0), p .put-form6 .ensures .1)
 
 returns-7 : tie.Need-returns-7
 unfolding siteForm
 returns-7 c =
     let p = c .before .before in
     let m = p .before .before .before .match in
-    (at-site _ 12 (m .keys7) (p .put-form6 .ensures .0), p .put-form6 .ensures .1)
+    (at-site _ 12 (m .keys7) (p .put-form7 .ensures .0), p .put-form7 .ensures .1)
 
 returns-8 : tie.Need-returns-8
 unfolding siteForm
@@ -61,7 +61,7 @@ returns-8 c =
     let m = p .before .before .before .match in
     let a = p .before .before .before .before .before .before .pre in
     let q = m .rest in
-    (at-last _ 13 (up 12 (up 11 (up 10 (up 9 (up 8 (up 7 (up 6 (a .2) (q .0 .0 .0 .0 .0 .0 .1)) (q .0 .0 .0 .0 .0 .1)) (q .0 .0 .0 .0 .1)) (q .0 .0 .0 .1)) (q .0 .0 .1)) (q .0 .1)) (q .1)) (a .3) (p .put-form7 .ensures .0), p .put-form7 .ensures .1)
+    (at-last _ 13 (up 12 (up 11 (up 10 (up 9 (up 8 (up 7 (up 6 (a .2) (q .0 .0 .0 .0 .0 .0 .1)) (q .0 .0 .0 .0 .0 .1)) (q .0 .0 .0 .0 .1)) (q .0 .0 .0 .1)) (q .0 .0 .1)) (q .0 .1)) (q .1)) (a .3) (p .put-form8 .ensures .0), p .put-form8 .ensures .1)
 
 pub put-transition-site-spec : {M : Type 1} → statement M
 put-transition-site-spec =
@@ -77,6 +77,7 @@ put-transition-site-spec =
     (λ c κs. search needs)
     (λ c. search needs)
     (λ c κs. search needs)
+    (λ c. search needs)
     (λ c κs. search needs)
     (λ c. search needs)
     (λ c κs. search needs)

@@ -16,36 +16,36 @@ returns-2 : tie.Need-returns-2
 unfolding siteForm
 returns-2 c =
     let p = c .before .before in
-    let m = p .before .before .match in
-    (at-site _ 22 (m .keys2) (p .put-dead .ensures .0), p .put-dead .ensures .1)
+    let m = p .before .before .before .match in
+    (at-site _ 22 (m .keys2) (p .put-form2 .ensures .0), p .put-form2 .ensures .1)
 
 returns-3 : tie.Need-returns-3
 unfolding siteForm
 returns-3 c =
     let p = c .before .before in
-    let m = p .before .before .match in
-    (at-site _ 23 (m .keys3) (p .put-unused .ensures .0), p .put-unused .ensures .1)
+    let m = p .before .before .before .match in
+    (at-site _ 23 (m .keys3) (p .put-form3 .ensures .0), p .put-form3 .ensures .1)
 
 returns-4 : tie.Need-returns-4
 unfolding siteForm
 returns-4 c =
     let p = c .before .before in
     let m = p .before .before .before .match in
-    (at-site _ 24 (m .keys4) (p .put-form2 .ensures .0), p .put-form2 .ensures .1)
+    (at-site _ 24 (m .keys4) (p .put-form4 .ensures .0), p .put-form4 .ensures .1)
 
 returns-5 : tie.Need-returns-5
 unfolding siteForm
 returns-5 c =
     let p = c .before .before in
     let m = p .before .before .before .match in
-    (at-site _ 25 (m .keys5) (p .put-form3 .ensures .0), p .put-form3 .ensures .1)
+    (at-site _ 25 (m .keys5) (p .put-form5 .ensures .0), p .put-form5 .ensures .1)
 
 returns-6 : tie.Need-returns-6
 unfolding siteForm
 returns-6 c =
     let p = c .before .before in
     let m = p .before .before .before .match in
-    (at-site _ 26 (m .keys6) (p .put-form4 .ensures .0), p .put-form4 .ensures .1)
+    (at-site _ 26 (m .keys6) (p .put-form6 .ensures .0), p .put-form6 .ensures .1)
 
 returns-7 : tie.Need-returns-7
 returns-7 c =
@@ -59,7 +59,9 @@ put-warning-site-spec =
     (tie.spec
     (λ c. search needs)
     (λ c κs. search needs)
+    (λ c. search needs)
     (λ c κs. search needs)
+    (λ c. search needs)
     (λ c κs. search needs)
     (λ c. search needs)
     (λ c κs. search needs)
