@@ -1,48 +1,43 @@
 // Reads a document from standard input and prints what is found in it: one message a line, errors, then warnings after
 // "warning: ", then both counts; or only the refusal's number and place.
-mod lines;
+mod line;
+mod lists;
+mod module;
 mod output;
 
 use findings::Reply;
 use libc::STDIN_FILENO;
-use lines::print_findings;
-use output::print_numbers;
+use lists::print_findings;
+use output::print_refusal;
 use text::put_bytes;
 ghost use Prim.Native.Nat.{_+_, _≤_};
 ghost use lib.ListN.{length};
 
-// Whether there are findings.
-fn any_found(number: u32, first: u64, second: u64) -> bool {
-    if number == 0 {
-        if 0 < first {
-            return true;
-        }
-        return 0 < second;
-    }
-    false
-}
-
-// The last line: both counts, or the refusal's number and place.
-fn print_last(number: u32, first: u64, second: u64) {
-    if number == 0 {
-        print_numbers(b"", first, b" errors, ", second, b" warnings\n");
-        return;
-    }
-    print_numbers(b"refused ", number as u64, b" at ", first, b"\n");
-}
-
-// The lines of so many errors and so many warnings, and the last: 16,380 words hold 3,276 findings, and more are refusal 10.
+// What is found, from the words of each kind: 16,380 words hold 3,276 findings, and more are refusal 10.
 fn print_kinds<'a>(doc: &'a [u8], errors: &'a [u32], e: usize, warnings: &'a [u32], w: usize)
     requires { ⌜ e + w ≤ 1064390464 ⌝ }
 {
     let all = e + w;
     if 3276 < all {
-        print_last(10, all as u64, 0);
+        print_refusal(10, all as u64);
         return;
     }
-    print_findings(doc, errors, e as u64, 0);
-    print_findings(doc, warnings, 0, w as u64);
-    print_last(0, e as u64, w as u64);
+    print_findings(doc, errors, e, warnings, w);
+}
+
+// What is found, from words that have the errors first: 1,020 words hold 204 findings.
+fn print_both<'a>(doc: &'a [u8], words: &'a [u32], e: u64, w: u64)
+    requires { ⌜ 1020 ≤ length (now words) ⌝ }
+{
+    if 204 < e {
+        return;
+    }
+    if 204 < w {
+        return;
+    }
+    let errors = e as usize;
+    let middle = 5 * errors;
+    print_findings(doc, &words[0..middle], errors, &words[middle..], w as usize);
 }
 
 // What is found in a document.
@@ -52,8 +47,8 @@ fn check(doc: &[u8]) {
     let r = findings::by_kind(doc, &mut errors, &mut warnings);
     match r {
         Reply::Counts(e, w) => print_kinds(doc, &errors, e, &warnings, w),
-        Reply::Refused(fault, place) => print_last(offer::fault_number(fault), place as u64, 0),
-        Reply::Short(count) => print_last(10, count as u64, 0),
+        Reply::Refused(fault, place) => print_refusal(offer::fault_number(fault), place as u64),
+        Reply::Short(count) => print_refusal(10, count as u64),
     }
 }
 
@@ -109,12 +104,11 @@ fn check_short(doc: &[u8])
         check_from(doc);
         return;
     }
-    let first = answer[0];
-    let second = answer[1];
-    if any_found(number, first, second) {
-        print_findings(doc, &words, first, second);
+    if number == 0 {
+        print_both(doc, &words, answer[0], answer[1]);
+        return;
     }
-    print_last(number, first, second);
+    print_refusal(number, answer[0]);
 }
 
 // A short document needs little memory.

@@ -1,7 +1,7 @@
 -- What it begins with, the message, the end.
 use borrow.Author.Needs.{needs}
-use Rattle.offercheck.proofs.lines.put_line.Statement.{statement}
-use Rattle.offercheck.proofs.lines.put_line.Tie as tie
+use Rattle.offercheck.proofs.line.put_line.Statement.{statement}
+use Rattle.offercheck.proofs.line.put_line.Tie as tie
 
 pub put-line-spec : {M : Type 1} → statement M
 put-line-spec =

@@ -1,7 +1,7 @@
 -- By the words of the finding.
 use borrow.Author.Needs.{needs}
-use Rattle.offercheck.proofs.lines.put_words.Statement.{statement}
-use Rattle.offercheck.proofs.lines.put_words.Tie as tie
+use Rattle.offercheck.proofs.line.put_words.Statement.{statement}
+use Rattle.offercheck.proofs.line.put_words.Tie as tie
 
 pub put-words-spec : {M : Type 1} → statement M
 put-words-spec =

@@ -1,0 +1,217 @@
+// The lines of a module's findings that follow one another: its tables are filled once for all of them.
+use crate::line::look_up_words;
+use crate::line::put_line;
+use crate::line::word_at;
+use crate::output::print_full;
+use findings::Ready;
+use findings::name_module;
+use findings::open_module;
+use text::Near;
+use text::module_at;
+use typing::Found;
+ghost use mathlib.Core.Path.{_≡_};
+ghost use Prim.Native.Nat.{_≤_};
+ghost use lib.ListN.{length};
+ghost use Rattle.reading.specs.Limits.{maxModules};
+ghost use Rattle.text.specs.Near.{Kept};
+
+// How far a list is put: the number of the next finding, and where the page has room for its line.
+pub(crate) struct Reached {
+    pub(crate) next: usize,
+    pub(crate) at: usize,
+}
+
+// The lines of the findings from the next on, as many as there are of the module whose number stands there and whose tables are filled.
+fn print_run<'a>(
+    doc: &'a [u8],
+    words: &'a [u32],
+    all: usize,
+    warning: bool,
+    from: Reached,
+    places: &'a [usize],
+    rows: &'a [usize],
+    count: u8,
+    known: Ready,
+    table: &mut [usize],
+    enums: &'a [usize],
+    claims: &'a [usize],
+    page: &mut [u8],
+) -> Reached
+    requires { ⌜ length (now doc) ≤ 0xffff ⌝ }
+    requires { ⌜ all ≤ 0xffff ⌝ }
+    requires { ⌜ from .next ≤ 0xffff ⌝ }
+    requires { ⌜ from .at ≤ 0xc000 ⌝ }
+    requires { ⌜ 1658 ≤ length (now table) ⌝ }
+    requires { ⌜ known .claims ≤ length (now claims) ⌝ }
+    ensures { λ r. ⌜ r .next ≤ 0xffff ⌝ }
+    ensures { λ r. ⌜ r .at ≤ 0xc000 ⌝ }
+{
+    let owner = word_at(words, 5 * from.next);
+    let mut near = Near::Nothing;
+    let mut i = from.next;
+    let mut at = from.at;
+    while i < all {
+        if word_at(words, 5 * i) != owner {
+            return Reached { next: i, at };
+        }
+        near = look_up_words(doc, words, i, places, rows, known, near);
+        let end = put_line(
+            doc,
+            words,
+            i,
+            warning,
+            places,
+            rows,
+            count,
+            known,
+            table,
+            enums,
+            claims,
+            page,
+            at,
+            near,
+        );
+        at = print_full(page, end);
+        i += 1;
+    }
+    Reached { next: i, at }
+}
+
+// The same, where the tables of names are yet to be filled.
+fn print_named<'a>(
+    doc: &'a [u8],
+    words: &'a [u32],
+    all: usize,
+    warning: bool,
+    from: Reached,
+    places: &'a [usize],
+    rows: &'a [usize],
+    count: u8,
+    table: &mut [usize],
+    enums: &mut [usize],
+    claims: &mut [usize],
+    page: &mut [u8],
+) -> Reached
+    requires { ⌜ length (now doc) ≤ 0xffff ⌝ }
+    requires { ⌜ all ≤ 0xffff ⌝ }
+    requires { ⌜ from .next ≤ 0xffff ⌝ }
+    requires { ⌜ from .at ≤ 0xc000 ⌝ }
+    requires { ⌜ 1658 ≤ length (now table) ⌝ }
+    requires { ⌜ length (now enums) ≡ 829 ⌝ }
+    requires { ⌜ length (now claims) ≡ 1020 ⌝ }
+    ensures { λ r. ⌜ r .next ≤ 0xffff ⌝ }
+    ensures { λ r. ⌜ r .at ≤ 0xc000 ⌝ }
+{
+    let known = name_module(doc, places, table, enums, claims);
+    print_run(
+        doc,
+        words,
+        all,
+        warning,
+        from,
+        places,
+        rows,
+        count,
+        known,
+        table,
+        enums,
+        claims,
+        page,
+    )
+}
+
+// The same for the module at a place, where no table is filled yet.
+fn print_at<'a>(
+    doc: &'a [u8],
+    words: &'a [u32],
+    all: usize,
+    warning: bool,
+    from: Reached,
+    at: usize,
+    places: &mut [usize],
+    rows: &mut [usize],
+    table: &mut [usize],
+    enums: &mut [usize],
+    claims: &mut [usize],
+    page: &mut [u8],
+) -> Reached
+    requires { ⌜ length (now doc) ≤ 0xffff ⌝ }
+    requires { ⌜ all ≤ 0xffff ⌝ }
+    requires { ⌜ from .next ≤ 0xffff ⌝ }
+    requires { ⌜ from .at ≤ 0xc000 ⌝ }
+    requires { ⌜ 1033 ≤ length (now places) ⌝ }
+    requires { ⌜ 2040 ≤ length (now rows) ⌝ }
+    requires { ⌜ 1658 ≤ length (now table) ⌝ }
+    requires { ⌜ length (now enums) ≡ 829 ⌝ }
+    requires { ⌜ length (now claims) ≡ 1020 ⌝ }
+    ensures { λ r. ⌜ r .next ≤ 0xffff ⌝ }
+    ensures { λ r. ⌜ r .at ≤ 0xc000 ⌝ }
+{
+    let listed = open_module(doc, at, places, rows);
+    print_named(
+        doc,
+        words,
+        all,
+        warning,
+        from,
+        places,
+        rows,
+        listed.count,
+        table,
+        enums,
+        claims,
+        page,
+    )
+}
+
+// The same for any module, of which the last is near; where there is none, the list is at its end.
+pub(crate) fn print_module<'a>(
+    doc: &'a [u8],
+    words: &'a [u32],
+    all: usize,
+    warning: bool,
+    from: Reached,
+    near: Near,
+    places: &mut [usize],
+    rows: &mut [usize],
+    table: &mut [usize],
+    enums: &mut [usize],
+    claims: &mut [usize],
+    page: &mut [u8],
+) -> Reached
+    requires { ⌜ Kept maxModules (now doc) near ⌝ }
+    requires { ⌜ length (now doc) ≤ 0xffff ⌝ }
+    requires { ⌜ all ≤ 0xffff ⌝ }
+    requires { ⌜ from .next ≤ 0xffff ⌝ }
+    requires { ⌜ from .at ≤ 0xc000 ⌝ }
+    requires { ⌜ 1033 ≤ length (now places) ⌝ }
+    requires { ⌜ 2040 ≤ length (now rows) ⌝ }
+    requires { ⌜ 1658 ≤ length (now table) ⌝ }
+    requires { ⌜ length (now enums) ≡ 829 ⌝ }
+    requires { ⌜ length (now claims) ≡ 1020 ⌝ }
+    ensures { λ r. ⌜ r .next ≤ 0xffff ⌝ }
+    ensures { λ r. ⌜ r .at ≤ 0xc000 ⌝ }
+{
+    let owner = word_at(words, 5 * from.next);
+    let f = module_at(doc, owner as usize, near);
+    let Found::At(at) = f else {
+        return Reached {
+            next: all,
+            at: from.at,
+        };
+    };
+    print_at(
+        doc,
+        words,
+        all,
+        warning,
+        from,
+        at,
+        places,
+        rows,
+        table,
+        enums,
+        claims,
+        page,
+    )
+}
