@@ -4,13 +4,16 @@ use text::Near;
 use text::look_up_finding;
 use text::put_bytes;
 use text::put_finding;
+ghost use mathlib.Core.Path.{_≡_};
 ghost use Prim.Native.Nat.{_+_, _≤_};
-ghost use lib.ListN.{length};
+ghost use lib.ListN.{length, getD};
 ghost use Rattle.reading.specs.Limits.{maxList};
 ghost use Rattle.text.specs.Near.{Kept};
 
 // A word; 0 past the end.
-pub(crate) fn word_at(words: &[u32], k: usize) -> u32 {
+pub(crate) fn word_at(words: &[u32], k: usize) -> u32
+    ensures { λ r. ⌜ r ≡ getD (now (words .entry)) k 0 ⌝ }
+{
     if k < words.len() {
         return words[k];
     }

@@ -2,7 +2,7 @@
 use crate::line::word_at;
 use crate::module::Reached;
 use crate::module::print_module;
-use crate::output::print_counts;
+use crate::output::print_no_findings;
 use crate::output::print_page;
 use crate::output::put_counts;
 use text::Near;
@@ -11,7 +11,7 @@ ghost use mathlib.Core.Path.{_≡_};
 ghost use Prim.Native.Nat.{_≤_};
 ghost use lib.ListN.{length};
 
-// The lines of one list, of errors or of warnings, into the page from a place on; where the next line starts. Each turn puts at least one.
+// The lines of one list, of errors or of warnings, into the page from a place on; where the next line starts.
 fn print_list<'a>(
     doc: &'a [u8],
     words: &'a [u32],
@@ -37,11 +37,7 @@ fn print_list<'a>(
 {
     let mut near = Near::Nothing;
     let mut done = Reached { next: 0, at };
-    let mut turns: usize = 0;
-    while turns < all {
-        if all <= done.next {
-            return done.at;
-        }
+    while done.next < all {
         near = look_up_module(doc, word_at(words, 5 * done.next) as usize, near);
         done = print_module(
             doc,
@@ -57,7 +53,6 @@ fn print_list<'a>(
             claims,
             page,
         );
-        turns += 1;
     }
     done.at
 }
@@ -104,7 +99,7 @@ fn print_lists<'a>(doc: &'a [u8], errors: &'a [u32], e: usize, warnings: &'a [u3
     print_page(&page, end);
 }
 
-// The same; no findings need no tables.
+// The same of any document: a longer one is never accepted, and without findings no table is needed.
 pub(crate) fn print_findings<'a>(
     doc: &'a [u8],
     errors: &'a [u32],
@@ -119,7 +114,7 @@ pub(crate) fn print_findings<'a>(
         return;
     }
     if e + w == 0 {
-        print_counts(0, 0);
+        print_no_findings();
         return;
     }
     print_lists(doc, errors, e, warnings, w);

@@ -10,7 +10,7 @@ use text::Near;
 use text::module_at;
 use typing::Found;
 ghost use mathlib.Core.Path.{_≡_};
-ghost use Prim.Native.Nat.{_≤_};
+ghost use Prim.Native.Nat.{_<_, _≤_};
 ghost use lib.ListN.{length};
 ghost use Rattle.reading.specs.Limits.{maxModules};
 ghost use Rattle.text.specs.Near.{Kept};
@@ -39,11 +39,11 @@ fn print_run<'a>(
 ) -> Reached
     requires { ⌜ length (now doc) ≤ 0xffff ⌝ }
     requires { ⌜ all ≤ 0xffff ⌝ }
-    requires { ⌜ from .next ≤ 0xffff ⌝ }
+    requires { ⌜ from .next < all ⌝ }
     requires { ⌜ from .at ≤ 0xc000 ⌝ }
     requires { ⌜ 1658 ≤ length (now table) ⌝ }
     requires { ⌜ known .claims ≤ length (now claims) ⌝ }
-    ensures { λ r. ⌜ r .next ≤ 0xffff ⌝ }
+    ensures { λ r. ⌜ from .next < r .next ⌝ }
     ensures { λ r. ⌜ r .at ≤ 0xc000 ⌝ }
 {
     let owner = word_at(words, 5 * from.next);
@@ -94,12 +94,12 @@ fn print_named<'a>(
 ) -> Reached
     requires { ⌜ length (now doc) ≤ 0xffff ⌝ }
     requires { ⌜ all ≤ 0xffff ⌝ }
-    requires { ⌜ from .next ≤ 0xffff ⌝ }
+    requires { ⌜ from .next < all ⌝ }
     requires { ⌜ from .at ≤ 0xc000 ⌝ }
     requires { ⌜ 1658 ≤ length (now table) ⌝ }
     requires { ⌜ length (now enums) ≡ 829 ⌝ }
     requires { ⌜ length (now claims) ≡ 1020 ⌝ }
-    ensures { λ r. ⌜ r .next ≤ 0xffff ⌝ }
+    ensures { λ r. ⌜ from .next < r .next ⌝ }
     ensures { λ r. ⌜ r .at ≤ 0xc000 ⌝ }
 {
     let known = name_module(doc, places, table, enums, claims);
@@ -137,14 +137,14 @@ fn print_at<'a>(
 ) -> Reached
     requires { ⌜ length (now doc) ≤ 0xffff ⌝ }
     requires { ⌜ all ≤ 0xffff ⌝ }
-    requires { ⌜ from .next ≤ 0xffff ⌝ }
+    requires { ⌜ from .next < all ⌝ }
     requires { ⌜ from .at ≤ 0xc000 ⌝ }
     requires { ⌜ 1033 ≤ length (now places) ⌝ }
     requires { ⌜ 2040 ≤ length (now rows) ⌝ }
     requires { ⌜ 1658 ≤ length (now table) ⌝ }
     requires { ⌜ length (now enums) ≡ 829 ⌝ }
     requires { ⌜ length (now claims) ≡ 1020 ⌝ }
-    ensures { λ r. ⌜ r .next ≤ 0xffff ⌝ }
+    ensures { λ r. ⌜ from .next < r .next ⌝ }
     ensures { λ r. ⌜ r .at ≤ 0xc000 ⌝ }
 {
     let listed = open_module(doc, at, places, rows);
@@ -182,14 +182,14 @@ pub(crate) fn print_module<'a>(
     requires { ⌜ Kept maxModules (now doc) near ⌝ }
     requires { ⌜ length (now doc) ≤ 0xffff ⌝ }
     requires { ⌜ all ≤ 0xffff ⌝ }
-    requires { ⌜ from .next ≤ 0xffff ⌝ }
+    requires { ⌜ from .next < all ⌝ }
     requires { ⌜ from .at ≤ 0xc000 ⌝ }
     requires { ⌜ 1033 ≤ length (now places) ⌝ }
     requires { ⌜ 2040 ≤ length (now rows) ⌝ }
     requires { ⌜ 1658 ≤ length (now table) ⌝ }
     requires { ⌜ length (now enums) ≡ 829 ⌝ }
     requires { ⌜ length (now claims) ≡ 1020 ⌝ }
-    ensures { λ r. ⌜ r .next ≤ 0xffff ⌝ }
+    ensures { λ r. ⌜ from .next < r .next ⌝ }
     ensures { λ r. ⌜ r .at ≤ 0xc000 ⌝ }
 {
     let owner = word_at(words, 5 * from.next);

@@ -50,10 +50,10 @@ pub(crate) fn put_counts(page: &mut [u8], at: usize, errors: u64, warnings: u64)
     put_bytes(page, c, b" warnings\n")
 }
 
-// The last line of an accepted document by itself.
-pub(crate) fn print_counts(errors: u64, warnings: u64) {
+// The last line of a document in which nothing is found, by itself.
+pub(crate) fn print_no_findings() {
     let mut line = [0u8; 96];
-    let end = put_counts(&mut line, 0, errors, warnings);
+    let end = put_counts(&mut line, 0, 0, 0);
     print_page(&line, end);
 }
 

@@ -1,4 +1,4 @@
--- The turns are counted; every table keeps its length.
+-- Each turn puts a finding at least; every table keeps its length.
 use Prim.Native.Nat.{_-_, _≤_}
 use mathlib.Core.Path.{_≡_, refl}
 use native.Mathlib.Omega.{arith}
@@ -11,9 +11,8 @@ use Rattle.offercheck.proofs.lists.print_list.Statement.{statement}
 use Rattle.offercheck.proofs.lists.print_list.Tie as tie
 
 abbrev Inv-loop : tie.InvT-loop
-Inv-loop doc words all warning places₀ rows₀ table₀ enums₀ claims₀ page₀ at near₀ done₀ turns₀ places rows table enums claims page near done turns =
+Inv-loop doc words all warning places₀ rows₀ table₀ enums₀ claims₀ page₀ at near₀ done₀ places rows table enums claims page near done =
     (all ≤ 65535)
-    × (done .next ≤ 65535)
     × (done .at ≤ 49152)
     × (length places ≡ length places₀)
     × (length rows ≡ length rows₀)
@@ -24,7 +23,7 @@ Inv-loop doc words all warning places₀ rows₀ table₀ enums₀ claims₀ pag
     × Kept maxModules doc near
 
 abbrev μ-loop : tie.MeasureT-loop
-μ-loop doc words all warning places₀ rows₀ table₀ enums₀ claims₀ page₀ at near₀ done₀ turns₀ places rows table enums claims page near done turns = all - turns
+μ-loop doc words all warning places₀ rows₀ table₀ enums₀ claims₀ page₀ at near₀ done₀ places rows table enums claims page near done = all - done .next
 
 pub print-list-spec : {M : Type 1} → statement M
 print-list-spec =
@@ -32,22 +31,14 @@ print-list-spec =
     (tie.spec
     Inv-loop
     μ-loop
-    (λ c. (omega arith, omega arith, omega arith, refl, refl, refl, refl, refl, refl, search kept-none))
-    (λ c. search needs)
-    (λ c. search needs)
-    (λ c. search needs)
-    (λ c. search needs)
-    (λ c. search needs)
-    (λ c. search needs)
-    (λ c. omega arith)
+    (λ c. (omega arith, omega arith, refl, refl, refl, refl, refl, refl, search kept-none))
     (λ c. omega arith)
     (λ c κs. search needs)
     (λ c. search needs)
     (λ c κs. search needs)
     (λ c κs. (search needs, (search needs, (search needs, (omega arith, (omega arith, (omega arith, (omega arith, (omega arith, (omega arith, omega arith))))))))))
     (λ c. omega arith)
-    (λ c. omega arith)
-    (λ c. (omega arith, omega arith, omega arith, search needs, search needs, search needs, search needs, search needs, search needs, search needs))
+    (λ c. (omega arith, omega arith, search needs, search needs, search needs, search needs, search needs, search needs, search needs))
     (λ c. search needs)
     (λ c. search needs)
     (λ c. search needs)
