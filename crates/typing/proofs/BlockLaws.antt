@@ -189,7 +189,7 @@ module _ (s pairs T : List ℕ) (o k : ℕ) (n : Name) (few : k ≤ 255) (same :
       ∙ find-past 64 s pairs n (linkIn T o i) i g (λ j a b q. w .link-last i j m b a (lane-same j (omega arith) ∙ q ∙ sym o′)) in
       rw (ne-eqb (suc i) 0 (λ (e : suc i ≡ 0). omega arith), le-ltb 255 (suc i) (omega arith), z, same (2 * i) (omega arith), under-same i m, v)
 
-  block-finds : blockFind s n T o ≡ findFirst s n pairs k
+  pub block-finds : blockFind s n T o ≡ findFirst s n pairs k
   unfolding blockFind
   block-finds =
       let h : print 0 n % 64 < 64 = omega arith in
@@ -210,7 +210,7 @@ pub getD-sets-low : (vs l : List ℕ) (j i : ℕ) → i < j → getD (sets l j v
 getD-sets-low [] l j i h = refl
 getD-sets-low (v ∷ vs) l j i h = getD-sets-low vs (set l j v) (suc j) i (omega arith) ∙ getD-set-other l j i v 0 (λ e. absurd (omega arith))
 
-getD-sets : (vs l : List ℕ) (o j : ℕ) → j < length vs → o + length vs ≤ length l → getD (sets l o vs) (o + j) 0 ≡ getD vs j 0
+pub getD-sets : (vs l : List ℕ) (o j : ℕ) → j < length vs → o + length vs ≤ length l → getD (sets l o vs) (o + j) 0 ≡ getD vs j 0
 getD-sets [] l o j h m = absurd (omega arith)
 getD-sets (v ∷ vs) l o zero h m =
     let e : o + 0 ≡ o = omega arith in

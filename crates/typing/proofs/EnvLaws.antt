@@ -31,7 +31,8 @@ use Rattle.typing.specs.Causes.{firstOf}
 use Rattle.typing.specs.Names.{eqName, member, called, lastCalled}
 use Rattle.typing.specs.Env.{Env, Binding, bindingType, varType, given, enumHas, forModule, withBindings, Agree}
 use Rattle.typing.specs.Table.{placeAfter, afterItem, afterHead, pairsFrom, pairsOf, pairsAt, findFirst, lastIn, widthType, caseType, exprTypeAt, memberFrom, memberOf, memberAt, typeFound, variantFound}
-use Rattle.typing.specs.Blocks.{blockFind, findIn, Keeps, envAt}
+use Rattle.typing.specs.Segments.{variantHeld}
+use Rattle.typing.specs.Blocks.{blockFind, Keeps, KeepsEnums, envAt}
 use Rattle.typing.specs.First.{enumName}
 use Rattle.typing.specs.Blames.{Bound, none-bound, more-bound}
 use Rattle.typing.proofs.TableLaws.{pairs-length}
@@ -232,16 +233,13 @@ module _ (s : List ℕ) (B : Bytes s) where
   given-of u (some e) = refl
 
   -- the tables of a module's variables and enums mean what the module declares
-  pub tables-agree : (names known : List ℕ) (vars enums : ℕ) (m : Module) (i j : ℕ) → length names ≡ 829 → length known ≡ 829 → Keeps s (pairsAt s vars) names 0 → Keeps s (pairsAt s enums) known 0 → listOf maxList readVarDecl s vars ≡ ok (m .vars) i → listOf maxList readEnumDecl s enums ≡ ok (m .enums) j → Agree (envAt s names known) (forModule m)
+  pub tables-agree : (names known : List ℕ) (vars enums : ℕ) (m : Module) (i j : ℕ) → length names ≡ 829 → length known ≡ 829 → Keeps s (pairsAt s vars) names 0 → KeepsEnums s (pairsAt s enums) known → listOf maxList readVarDecl s vars ≡ ok (m .vars) i → listOf maxList readEnumDecl s enums ≡ ok (m .enums) j → Agree (envAt s names known) (forModule m)
   unfolding envAt forModule firstOf
   tables-agree names known vars enums m i j k l p q e f = record {
     names = λ w. ap (typeFound s) (one-block s w names k ∙ p .finds w) ∙ vars-are vars w (m .vars) i e;
-    enums = λ w. ap given (enum-found w) ∙ given-at [] (lastIn s w (pairsAt s enums)) ∙ ap given (enums-hold [] enums w (m .enums) j f) ∙ sym (given-of [] (lastCalled enumName w (m .enums)));
-    variants = λ w u. ap (variantFound s u) (enum-found w) ∙ found-or u (lastIn s w (pairsAt s enums)) ∙ ap orFalse (enums-hold u enums w (m .enums) j f) ∙ sym (has-or u (lastCalled enumName w (m .enums)));
+    enums = λ w. ap given (one-block s w known l) ∙ q .known w ∙ given-at [] (lastIn s w (pairsAt s enums)) ∙ ap given (enums-hold [] enums w (m .enums) j f) ∙ sym (given-of [] (lastCalled enumName w (m .enums)));
+    variants = λ w u. ap (variantHeld s known u) (one-block s w known l) ∙ q .has w u ∙ found-or u (lastIn s w (pairsAt s enums)) ∙ ap orFalse (enums-hold u enums w (m .enums) j f) ∙ sym (has-or u (lastCalled enumName w (m .enums)));
   }
-    where
-      enum-found : (w : Name) → findIn s w known ≡ lastIn s w (pairsAt s enums)
-      enum-found w = one-block s w known l ∙ q .finds w
 
 abbrev bindingName : Binding → Name
 bindingName b = b .name

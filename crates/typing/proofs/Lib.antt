@@ -8,6 +8,7 @@ pub mod ShortLaws
 pub mod TableLaws
 pub mod LaneLaws
 pub mod BlockLaws
+pub mod SegmentLaws
 pub mod PathLaws
 pub mod TypeLaws
 pub mod ShapeLaws

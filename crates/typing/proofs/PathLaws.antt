@@ -36,7 +36,8 @@ use Rattle.typing.specs.Env.{given, stateVariants}
 use Rattle.typing.specs.Typing.{resolveState, orState, resolveName, resolveVariant, resolvePath}
 use Rattle.typing.specs.Means.{good, tyOf, causeOf, typedOf, outcome}
 use Rattle.typing.specs.Tells.{Ends}
-use Rattle.typing.specs.Table.{placeAfter, afterItem, Past, found, widthType, exprTypeAt, memberAt, typeFound, variantFound}
+use Rattle.typing.specs.Table.{placeAfter, afterItem, Past, found, widthType, exprTypeAt, typeFound}
+use Rattle.typing.specs.Segments.{variantIn, variantHeld}
 use Rattle.typing.specs.Blocks.{findIn, envAt}
 use Rattle.typing.specs.Typed.{Resolves}
 use Rattle.typing.specs.declared.ty.Ty.{Ty}
@@ -63,12 +64,12 @@ found-none none e q = refl
 
 module _ (s enums : List ℕ) where
   module _ (n : Name) {f : Found} (e : f ≡ found (findIn s stateEnum enums)) where
-    pub state-listed : {at : ℕ} {x : Bool} → f ≡ At at → x ≡ memberAt s at n → x ≡ stateVariants (envAt s [] enums) n
-    unfolding envAt variantFound
+    pub state-listed : {at : ℕ} {x : Bool} → f ≡ At at → x ≡ variantIn s enums n at → x ≡ stateVariants (envAt s [] enums) n
+    unfolding envAt variantHeld
     state-listed q g = rw (found-at _ e q) g
 
     pub state-unlisted : f ≡ Nothing → false ≡ stateVariants (envAt s [] enums) n
-    unfolding envAt variantFound
+    unfolding envAt variantHeld
     state-unlisted q = rw (found-none _ e q)
 
   module _ (at next : ℕ) {x : Bool} {n : Name} (e : x ≡ stateVariants (envAt s [] enums) n) (t : n ≡ textAt s at) where
@@ -152,9 +153,9 @@ module _ (s enums : List ℕ) (at m next : ℕ) {f : Found} {n : Name} (g : f �
   unfolding resolveVariant pick envAt given typedOf outcome causeOf
   enum-unknown q = rw (found-none _ enum-found q)
 
-  module _ {list v : ℕ} {w : Name} {x : Bool} (q : f ≡ At list) (h : v ≡ afterItem s at) (u : w ≡ textAt s v) (k : x ≡ memberAt s list w) where
-    variant-test : variantFound s (textAt s (afterItem s at)) (findIn s (textAt s at) enums) ≡ x
-    unfolding variantFound
+  module _ {list v : ℕ} {w : Name} {x : Bool} (q : f ≡ At list) (h : v ≡ afterItem s at) (u : w ≡ textAt s v) (k : x ≡ variantIn s enums w list) where
+    variant-test : variantHeld s enums (textAt s (afterItem s at)) (findIn s (textAt s at) enums) ≡ x
+    unfolding variantHeld
     variant-test = rw (found-at _ enum-found q, sym h, sym u) (sym k)
 
     enum-known : given (findIn s (textAt s at) enums) ≡ true

@@ -15,6 +15,7 @@ use Rattle.typing.specs.Causes.{firstOf}
 use Rattle.typing.specs.Env.{Env, given}
 use Rattle.typing.specs.Lanes.{print, Woven}
 use Rattle.typing.specs.Table.{lastIn, typeFound, variantFound}
+use Rattle.typing.specs.Segments.{variantHeld}
 
 -- the words of the block from word o on: the name of pair i and what is under it, the head of a lane, the link of a pair
 abbrev pub nameIn : List ℕ → ℕ → ℕ → ℕ
@@ -60,6 +61,11 @@ findIn s n T = findBlocks (length T / 829) s n T
 pub record Keeps (s pairs T : List ℕ) (o : ℕ) : Type 0 where
   pub finds : (n : Name) → blockFind s n T o ≡ lastIn s n pairs
 
+-- the block that a table of enums begins with has the enums of the pairs, each with its variants
+pub record KeepsEnums (s pairs T : List ℕ) : Type 0 where
+  pub known : (e : Name) → given (blockFind s e T 0) ≡ given (lastIn s e pairs)
+  pub has : (e n : Name) → variantHeld s T n (blockFind s e T 0) ≡ variantFound s n (lastIn s e pairs)
+
 -- a block after its first k pairs were put on their lanes: those and all words before the block are as they were
 pub record Weaves (s T : List ℕ) (o k : ℕ) (T′ : List ℕ) : Type 0 where
   pub size : length T′ ≡ length T
@@ -78,5 +84,5 @@ envAt s names enums = record {
   bindings = λ n. none;
   vars = λ n. typeFound s (findIn s n names);
   enums = λ n. given (findIn s n enums);
-  variants = λ e n. variantFound s n (findIn s e enums);
+  variants = λ e n. variantHeld s enums n (findIn s e enums);
 }

@@ -15,6 +15,7 @@ pub mod Means
 pub mod Tells
 pub mod Table
 pub mod Lanes
+pub mod Segments
 pub mod Blocks
 pub mod Typed
 pub mod Quick

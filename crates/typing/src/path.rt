@@ -3,10 +3,10 @@ use crate::block::find;
 use crate::cause::Cause;
 use crate::cause::Typed;
 use crate::names::same;
+use crate::segments::has_variant;
 use crate::table::Found;
 use crate::table::after;
 use crate::table::after_any;
-use crate::table::has_name;
 use crate::ty::Ty;
 use reading::Answer;
 use reading::Cursor;
@@ -32,7 +32,7 @@ pub(crate) fn state_variant<'a>(doc: &'a [u8], enums: &'a [usize], name: &'a [u8
 {
     let f = find(doc, enums, b"State");
     match f {
-        Found::At(list) => has_name(doc, list, name),
+        Found::At(list) => has_variant(doc, enums, list, name),
         Found::Nothing => false,
     }
 }
@@ -113,7 +113,7 @@ pub(crate) fn resolve_variant<'a>(
         return Typed::Fails(Cause::UnknownEnum(at));
     };
     let variant = after(doc, at);
-    if has_name(doc, list, text_at(doc, variant)) {
+    if has_variant(doc, enums, list, text_at(doc, variant)) {
         if 2 < segments {
             return Typed::Fails(Cause::PathLength(segments));
         }
