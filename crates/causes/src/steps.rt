@@ -52,10 +52,17 @@ fn word_at(s: &[u8], at: usize) -> u64 {
     word(s[at], s[at + 1], s[at + 2], s[at + 3])
 }
 
-// Fills the first block of a table, where it has one.
+// Fills the first block of a table of names, where it has one.
 fn fill_first(doc: &[u8], at: usize, table: &mut [usize]) {
     if 829 <= table.len() {
         typing::fill_block(doc, at, table);
+    }
+}
+
+// Fills the first block of a table of enums, where it has one.
+fn fill_first_enums(doc: &[u8], at: usize, table: &mut [usize]) {
+    if 829 <= table.len() {
+        typing::fill_enums(doc, at, table);
     }
 }
 
@@ -73,7 +80,7 @@ fn set_up(
     let at = s.at;
     let mut out = t;
     if kind == 0 {
-        fill_first(doc, at, enums);
+        fill_first_enums(doc, at, enums);
         return out;
     }
     if kind == 1 {

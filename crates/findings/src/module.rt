@@ -10,6 +10,7 @@ use crate::rows::word;
 use typing::Found;
 use typing::after;
 use typing::fill_block;
+use typing::fill_enums;
 use typing::fill_table;
 use typing::store;
 ghost use mathlib.Core.Path.{_≡_};
@@ -99,7 +100,7 @@ pub(crate) fn fill_names(
     ensures { λ r. ⌜ Names (now (doc .entry)) (now (places .entry)) r (now (table .exit)) (now (enums .exit)) (now (claims .exit)) ⌝ }
 {
     fill_block(doc, word(places, 7), table);
-    fill_block(doc, word(places, 3), enums);
+    fill_enums(doc, word(places, 3), enums);
     let properties = word(places, 9);
     let assumptions = word(places, 10);
     fill_claims(doc, properties, assumptions, claims)
