@@ -319,40 +319,45 @@ fn inits() -> Ir {
     })
 }
 
-/// One transition whose guard names the last of 255 variants 3,200 times.
+/// One transition whose guard names the first of 255 variants 3,200 times.
 fn variants() -> Ir {
-    last_of(&names("m"), 1_600)
+    let all = names("m");
+    one_of(&all, 1, &all[0], 1_600)
 }
 
-/// The same of names of four to six bytes, 2,800 times.
+/// The same of the last of names of four to six bytes, in the third of three
+/// such enums, 2,600 times.
 fn lengths() -> Ir {
     let longer = |(k, n): (usize, String)| n + &"xx"[..k * k % 7 % 3];
     let all: Vec<String> = names("m").into_iter().enumerate().map(longer).collect();
-    last_of(&all, 1_400)
+    one_of(&all, 3, &all[254], 1_300)
 }
 
-/// One transition whose guard is so many equalities of the last of some
-/// variants with itself.
-fn last_of(names: &[String], many: usize) -> Ir {
+/// One transition whose guard is so many equalities of a variant of the last
+/// of some enums, all of the same variants, with itself.
+fn one_of(names: &[String], enums: usize, name: &str, many: usize) -> Ir {
     let listed: Vec<&str> = names.iter().map(String::as_str).collect();
-    let last = path(&["Mode", listed[listed.len() - 1]]);
-    let equal = binary(BinOp::Eq, last.clone(), last);
+    let called: Vec<String> = (0..enums).map(|k| format!("Mode{k}")).collect();
+    let there = path(&[&called[enums - 1], name]);
+    let equal = binary(BinOp::Eq, there.clone(), there);
     let step = Transition {
         guard: Some(joined(BinOp::LogicOr, vec![equal; many])),
         ..mixed_step(2)
     };
+    let mut declared = vec![enum_decl("State", &STATES)];
+    declared.extend(called.iter().map(|n| enum_decl(n, &listed)));
     ir(vec![Module {
-        enums: vec![enum_decl("State", &STATES), enum_decl("Mode", &listed)],
+        enums: declared,
         transitions: vec![step],
         ..mixed("Link", 0, 1)
     }])
 }
 
-/// One transition whose guard names the last of 255 states 2,500 times.
+/// One transition whose guard names the first of 255 states 2,500 times.
 fn states() -> Ir {
     let names = names("s");
     let listed: Vec<&str> = names.iter().map(String::as_str).collect();
-    let there = binary(BinOp::Eq, path(&["state"]), path(&["s254"]));
+    let there = binary(BinOp::Eq, path(&["state"]), path(&["s000"]));
     let step = Transition {
         guard: Some(joined(BinOp::LogicOr, vec![there; 2_500])),
         ..mixed_step(2)
