@@ -2,7 +2,6 @@
 use crate::line::word_at;
 use crate::module::Reached;
 use crate::module::print_module;
-use crate::output::print_no_findings;
 use crate::output::print_page;
 use crate::output::put_counts;
 use text::Near;
@@ -57,8 +56,14 @@ fn print_list<'a>(
     done.at
 }
 
-// The lines of e errors and w warnings, and the last.
-fn print_lists<'a>(doc: &'a [u8], errors: &'a [u32], e: usize, warnings: &'a [u32], w: usize)
+// The lines of e errors and w warnings, and the last. Its frame is touched on entry, so it is called only where there is a finding.
+pub(crate) fn print_lists<'a>(
+    doc: &'a [u8],
+    errors: &'a [u32],
+    e: usize,
+    warnings: &'a [u32],
+    w: usize,
+)
     requires { ⌜ length (now doc) ≤ 0xffff ⌝ }
     requires { ⌜ e ≤ 0xffff ⌝ }
     requires { ⌜ w ≤ 0xffff ⌝ }
@@ -97,25 +102,4 @@ fn print_lists<'a>(doc: &'a [u8], errors: &'a [u32], e: usize, warnings: &'a [u3
     );
     let end = put_counts(&mut page, at, e as u64, w as u64);
     print_page(&page, end);
-}
-
-// The same of any document: a longer one is never accepted, and without findings no table is needed.
-pub(crate) fn print_findings<'a>(
-    doc: &'a [u8],
-    errors: &'a [u32],
-    e: usize,
-    warnings: &'a [u32],
-    w: usize,
-)
-    requires { ⌜ e ≤ 0xffff ⌝ }
-    requires { ⌜ w ≤ 0xffff ⌝ }
-{
-    if 65535 < doc.len() {
-        return;
-    }
-    if e + w == 0 {
-        print_no_findings();
-        return;
-    }
-    print_lists(doc, errors, e, warnings, w);
 }

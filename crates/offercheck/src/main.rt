@@ -7,13 +7,15 @@ mod output;
 
 use findings::Reply;
 use libc::STDIN_FILENO;
-use lists::print_findings;
+use lists::print_lists;
+use output::print_no_findings;
 use output::print_refusal;
 use text::put_bytes;
 ghost use Prim.Native.Nat.{_+_, _≤_};
 ghost use lib.ListN.{length};
 
-// What is found, from the words of each kind: 16,380 words hold 3,276 findings, and more are refusal 10.
+// What is found, from the words of each kind: 16,380 words hold 3,276 findings, and more are refusal 10. No accepted document has more
+// than 65,535 bytes.
 fn print_kinds<'a>(doc: &'a [u8], errors: &'a [u32], e: usize, warnings: &'a [u32], w: usize)
     requires { ⌜ e + w ≤ 1064390464 ⌝ }
 {
@@ -22,11 +24,18 @@ fn print_kinds<'a>(doc: &'a [u8], errors: &'a [u32], e: usize, warnings: &'a [u3
         print_refusal(10, all as u64);
         return;
     }
-    print_findings(doc, errors, e, warnings, w);
+    if all == 0 {
+        print_no_findings();
+        return;
+    }
+    if doc.len() <= 65535 {
+        print_lists(doc, errors, e, warnings, w);
+    }
 }
 
 // What is found, from words that have the errors first: 1,020 words hold 204 findings.
 fn print_both<'a>(doc: &'a [u8], words: &'a [u32], e: u64, w: u64)
+    requires { ⌜ length (now doc) ≤ 0xffff ⌝ }
     requires { ⌜ 1020 ≤ length (now words) ⌝ }
 {
     if 204 < e {
@@ -35,9 +44,13 @@ fn print_both<'a>(doc: &'a [u8], words: &'a [u32], e: u64, w: u64)
     if 204 < w {
         return;
     }
+    if e + w == 0 {
+        print_no_findings();
+        return;
+    }
     let errors = e as usize;
     let middle = 5 * errors;
-    print_findings(doc, &words[0..middle], errors, &words[middle..], w as usize);
+    print_lists(doc, &words[0..middle], errors, &words[middle..], w as usize);
 }
 
 // What is found in a document.
