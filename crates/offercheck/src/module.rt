@@ -15,7 +15,7 @@ ghost use lib.ListN.{length};
 ghost use Rattle.reading.specs.Limits.{maxModules};
 ghost use Rattle.text.specs.Near.{Kept};
 
-// How far a list is put: the number of the next finding, and where the page has room for its line.
+// How far a list is put: the number of the next finding, and where its line starts in the page.
 pub(crate) struct Reached {
     pub(crate) next: usize,
     pub(crate) at: usize,
