@@ -1,11 +1,9 @@
 // The lines of all findings and the last line, in one page: it is printed when it is nearly full, and at the end.
-use crate::line::word_at;
 use crate::module::Reached;
 use crate::module::print_module;
 use crate::output::print_page;
 use crate::output::put_counts;
 use text::Near;
-use text::look_up_module;
 ghost use mathlib.Core.Path.{_≡_};
 ghost use Prim.Native.Nat.{_≤_};
 ghost use lib.ListN.{length};
@@ -34,17 +32,18 @@ fn print_list<'a>(
     requires { ⌜ at ≤ 0xc000 ⌝ }
     ensures { λ r. ⌜ r ≤ 0xc000 ⌝ }
 {
-    let mut near = Near::Nothing;
-    let mut done = Reached { next: 0, at };
+    let mut done = Reached {
+        next: 0,
+        at,
+        near: Near::Nothing,
+    };
     while done.next < all {
-        near = look_up_module(doc, word_at(words, 5 * done.next) as usize, near);
         done = print_module(
             doc,
             words,
             all,
             warning,
             done,
-            near,
             places,
             rows,
             table,

@@ -7,13 +7,14 @@ use findings::Ready;
 use findings::name_module;
 use findings::open_module;
 use text::Near;
+use text::module_after;
 use text::module_at;
 use typing::Found;
 ghost use mathlib.Core.Path.{_≡_};
 ghost use Prim.Native.Nat.{_<_, _≤_};
 ghost use lib.ListN.{length};
-ghost use Rattle.reading.specs.Limits.{maxModules};
-ghost use Rattle.text.specs.Near.{Kept};
+ghost use Rattle.typing.specs.declared.table.Found.the-variants.{At};
+ghost use Rattle.text.specs.Near.{KeptModule, PickedModule};
 
 // How far a list is put: the number of the next finding, and where its line starts in the page.
 pub(crate) struct Reached {
@@ -45,6 +46,7 @@ fn print_run<'a>(
     requires { ⌜ known .claims ≤ length (now claims) ⌝ }
     ensures { λ r. ⌜ from .next < r .next ⌝ }
     ensures { λ r. ⌜ r .at ≤ 0xc000 ⌝ }
+    ensures { λ r. ⌜ r .near ≡ from .near ⌝ }
 {
     let owner = word_at(words, 5 * from.next);
     let mut near = Near::Nothing;
@@ -52,7 +54,11 @@ fn print_run<'a>(
     let mut at = from.at;
     while i < all {
         if word_at(words, 5 * i) != owner {
-            return Reached { next: i, at };
+            return Reached {
+                next: i,
+                at,
+                near: from.near,
+            };
         }
         near = look_up_words(doc, words, i, places, rows, known, near);
         let end = put_line(
@@ -74,7 +80,11 @@ fn print_run<'a>(
         at = print_full(page, end);
         i += 1;
     }
-    Reached { next: i, at }
+    Reached {
+        next: i,
+        at,
+        near: from.near,
+    }
 }
 
 // The same, where the tables of names are yet to be filled.
@@ -101,6 +111,7 @@ fn print_named<'a>(
     requires { ⌜ length (now claims) ≡ 1020 ⌝ }
     ensures { λ r. ⌜ from .next < r .next ⌝ }
     ensures { λ r. ⌜ r .at ≤ 0xc000 ⌝ }
+    ensures { λ r. ⌜ r .near ≡ from .near ⌝ }
 {
     let known = name_module(doc, places, table, enums, claims);
     print_run(
@@ -120,13 +131,14 @@ fn print_named<'a>(
     )
 }
 
-// The same for the module at a place, where no table is filled yet.
+// The same for module number k, which stands at a place, where no table is filled yet.
 fn print_at<'a>(
     doc: &'a [u8],
     words: &'a [u32],
     all: usize,
     warning: bool,
     from: Reached,
+    k: usize,
     at: usize,
     places: &mut [usize],
     rows: &mut [usize],
@@ -135,6 +147,8 @@ fn print_at<'a>(
     claims: &mut [usize],
     page: &mut [u8],
 ) -> Reached
+    requires { ⌜ PickedModule (now doc) k (At at) ⌝ }
+    requires { ⌜ k ≤ 0xffff_ffff ⌝ }
     requires { ⌜ length (now doc) ≤ 0xffff ⌝ }
     requires { ⌜ all ≤ 0xffff ⌝ }
     requires { ⌜ from .next < all ⌝ }
@@ -146,14 +160,20 @@ fn print_at<'a>(
     requires { ⌜ length (now claims) ≡ 1020 ⌝ }
     ensures { λ r. ⌜ from .next < r .next ⌝ }
     ensures { λ r. ⌜ r .at ≤ 0xc000 ⌝ }
+    ensures { λ r. ⌜ KeptModule (now (doc .entry)) (r .near) ⌝ }
 {
     let listed = open_module(doc, at, places, rows);
+    let onward = Reached {
+        next: from.next,
+        at: from.at,
+        near: module_after(doc, k, listed.end),
+    };
     print_named(
         doc,
         words,
         all,
         warning,
-        from,
+        onward,
         places,
         rows,
         listed.count,
@@ -164,14 +184,13 @@ fn print_at<'a>(
     )
 }
 
-// The same for any module, of which the last is near; where there is none, the list is at its end.
+// The same for any module; where there is none, the list is at its end.
 pub(crate) fn print_module<'a>(
     doc: &'a [u8],
     words: &'a [u32],
     all: usize,
     warning: bool,
     from: Reached,
-    near: Near,
     places: &mut [usize],
     rows: &mut [usize],
     table: &mut [usize],
@@ -179,7 +198,7 @@ pub(crate) fn print_module<'a>(
     claims: &mut [usize],
     page: &mut [u8],
 ) -> Reached
-    requires { ⌜ Kept maxModules (now doc) near ⌝ }
+    requires { ⌜ KeptModule (now doc) (from .near) ⌝ }
     requires { ⌜ length (now doc) ≤ 0xffff ⌝ }
     requires { ⌜ all ≤ 0xffff ⌝ }
     requires { ⌜ from .next < all ⌝ }
@@ -191,13 +210,15 @@ pub(crate) fn print_module<'a>(
     requires { ⌜ length (now claims) ≡ 1020 ⌝ }
     ensures { λ r. ⌜ from .next < r .next ⌝ }
     ensures { λ r. ⌜ r .at ≤ 0xc000 ⌝ }
+    ensures { λ r. ⌜ KeptModule (now (doc .entry)) (r .near) ⌝ }
 {
-    let owner = word_at(words, 5 * from.next);
-    let f = module_at(doc, owner as usize, near);
+    let k = word_at(words, 5 * from.next) as usize;
+    let f = module_at(doc, k, from.near);
     let Found::At(at) = f else {
         return Reached {
             next: all,
             at: from.at,
+            near: from.near,
         };
     };
     print_at(
@@ -206,6 +227,7 @@ pub(crate) fn print_module<'a>(
         all,
         warning,
         from,
+        k,
         at,
         places,
         rows,

@@ -18,13 +18,13 @@ use Rattle.typing.specs.Table.{afterItem, Past}
 use Rattle.typing.specs.declared.table.Found.{Found}
 use Rattle.typing.specs.declared.table.Found.the-variants.{At, Nothing}
 use Rattle.text.specs.Says.{passed, entryOf, entryAt, Picked}
-use Rattle.text.specs.Near.{Kept, Starts}
+use Rattle.text.specs.Near.{Kept, Starts, PickedFrom, KeptModule}
 use Rattle.text.specs.declared.entry.Near.{Near}
 use Rattle.text.specs.declared.entry.Near.the-variants as nears
 use Rattle.text.specs.declared.entry.Numbered.{Numbered}
 
 -- so many items, and then as many more
-passed-both : (m n : ℕ) (s : List ℕ) (at : ℕ) → passed m s (passed n s at) ≡ passed (n + m) s at
+pub passed-both : (m n : ℕ) (s : List ℕ) (at : ℕ) → passed m s (passed n s at) ≡ passed (n + m) s at
 unfolding passed
 passed-both m zero s at = let e : m ≡ 0 + m = omega arith in ap (λ (j : ℕ). passed j s at) e
 passed-both m (suc n) s at = let e : suc (n + m) ≡ suc n + m = omega arith in passed-both m n s (afterItem s at) ∙ ap (λ (j : ℕ). passed j s at) e
@@ -81,6 +81,12 @@ module _ (most : ℕ) (s : List ℕ) (at k : ℕ) {a : Answer} (e : a ≡ answer
 pub kept-none : (most : ℕ) (s : List ℕ) → Kept most s nears.Nothing
 unfolding Kept
 kept-none most s = tt
+
+pub no-module-kept : (s : List ℕ) → KeptModule s nears.Nothing
+no-module-kept s = record { of = λ x n g. kept-none _ s }
+
+pub picked-from : {near : Near} {most : ℕ} {s : List ℕ} {at k : ℕ} {f : Found} → Kept most s near → PickedFrom near most s at k f → Picked most s at k f
+picked-from h p = p .of h
 
 -- what is looked up stands there
 module _ (most : ℕ) (s : List ℕ) (at k : ℕ) {f : Found} (p : Picked most s at k f) where

@@ -6,7 +6,7 @@ use typing::after;
 ghost use mathlib.Core.Path.{_≡_};
 ghost use Prim.Native.Nat.{_≤_};
 ghost use Rattle.reading.specs.Limits.{maxList};
-ghost use Rattle.text.specs.Near.{Kept, Starts};
+ghost use Rattle.text.specs.Near.{Kept, Starts, PickedFrom};
 ghost use Rattle.text.specs.Says.{Picked};
 
 // An entry that was looked up: the place of its list, its number there, and its own place. The next is often not far behind it.
@@ -47,8 +47,7 @@ fn start_at(near: Near, at: usize, k: usize, first: usize) -> Numbered
 
 // The place of entry k of the list at a place, which has at most so many.
 pub(crate) fn entry_of(doc: &[u8], at: usize, most: u64, k: usize, near: Near) -> Found
-    requires { ⌜ Kept most (now doc) near ⌝ }
-    ensures { λ r. ⌜ Picked most (now (doc .entry)) at k r ⌝ }
+    ensures { λ r. ⌜ PickedFrom near most (now (doc .entry)) at k r ⌝ }
 {
     let c = Cursor { at };
     let a = c.count(doc, most);
@@ -77,11 +76,11 @@ pub(crate) fn entry_at(doc: &[u8], at: usize, k: usize, near: Near) -> Found
 }
 
 // Looks up entry k of the list at a place.
-pub(crate) fn look_up(doc: &[u8], at: usize, most: u64, k: usize, near: Near) -> Near
-    requires { ⌜ Kept most (now doc) near ⌝ }
-    ensures { λ r. ⌜ Kept most (now (doc .entry)) r ⌝ }
+pub(crate) fn look_up(doc: &[u8], at: usize, k: usize, near: Near) -> Near
+    requires { ⌜ Kept maxList (now doc) near ⌝ }
+    ensures { λ r. ⌜ Kept maxList (now (doc .entry)) r ⌝ }
 {
-    let f = entry_of(doc, at, most, k, near);
+    let f = entry_at(doc, at, k, near);
     match f {
         Found::At(place) => Near::Entry(at, k, place),
         Found::Nothing => Near::Nothing,

@@ -146,7 +146,7 @@ pub fn look_up_finding<'a>(
 {
     let f = list_of(doc, places, rows, known, site, i);
     match f {
-        Found::At(list) => look_up(doc, list, 255, number_in_list(site, i, j), near),
+        Found::At(list) => look_up(doc, list, number_in_list(site, i, j), near),
         Found::Nothing => near,
     }
 }

@@ -29,7 +29,7 @@ use findings::Line;
 use findings::finding_at;
 pub use out::put_bytes;
 pub use told::Told;
-pub use words::look_up_module;
+pub use words::module_after;
 pub use words::module_at;
 use words::say_words;
 use words::write;

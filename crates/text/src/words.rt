@@ -1,7 +1,6 @@
 // The message of a finding, by its words.
 use crate::entry::Near;
 use crate::entry::entry_of;
-use crate::entry::look_up;
 use crate::said::Said;
 use crate::say::say;
 use crate::site::put_said;
@@ -13,15 +12,16 @@ use typing::Found;
 use typing::after;
 use typing::after_head;
 ghost use mathlib.Core.Path.{_≡_};
-ghost use Prim.Native.Nat.{_≤_};
+ghost use Prim.Native.Nat.{_+_, _≤_};
 ghost use lib.ListN.{length, take};
-ghost use Rattle.reading.specs.Limits.{maxList, maxModules};
-ghost use Rattle.typing.specs.Table.{afterHead, Past};
-ghost use Rattle.text.specs.Near.{Kept};
+ghost use Rattle.reading.specs.Limits.{maxList};
+ghost use Rattle.typing.specs.Table.{afterItem, afterHead, Past};
+ghost use Rattle.text.specs.Near.{Kept, KeptModule, PickedModule};
 ghost use Rattle.text.specs.Message.{saying, sayingText};
 ghost use Rattle.text.specs.Said.{sayingOf};
-ghost use Rattle.text.specs.Says.{Named, Says, SaysIn, ModuleAt, SaysWords};
+ghost use Rattle.text.specs.Says.{Named, Says, SaysIn, SaysWords};
 ghost use Rattle.text.specs.Told.{sized, filled};
+ghost use Rattle.text.specs.declared.entry.Near.the-variants.{Entry};
 
 // What is said by the tables of a module, of which so many words are in use.
 pub(crate) fn say_named<'a>(
@@ -134,18 +134,18 @@ fn modules_at(doc: &[u8]) -> usize
 
 // The place of module number k.
 pub fn module_at(doc: &[u8], k: usize, near: Near) -> Found
-    requires { ⌜ Kept maxModules (now doc) near ⌝ }
-    ensures { λ r. ⌜ ModuleAt (now (doc .entry)) k r ⌝ }
+    requires { ⌜ KeptModule (now doc) near ⌝ }
+    ensures { λ r. ⌜ PickedModule (now (doc .entry)) k r ⌝ }
 {
     entry_of(doc, modules_at(doc), 16, k, near)
 }
 
-// Looks up module number k.
-pub fn look_up_module(doc: &[u8], k: usize, near: Near) -> Near
-    requires { ⌜ Kept maxModules (now doc) near ⌝ }
-    ensures { λ r. ⌜ Kept maxModules (now (doc .entry)) r ⌝ }
+// The module after number k, which ends at a place.
+pub fn module_after(doc: &[u8], k: usize, end: usize) -> Near
+    requires { ⌜ k ≤ 0xffff_ffff ⌝ }
+    ensures { λ r. ⌜ r ≡ Entry (afterItem (now (doc .entry)) (afterHead (now (doc .entry)) 0)) (k + 1) end ⌝ }
 {
-    look_up(doc, modules_at(doc), 16, k, near)
+    Near::Entry(modules_at(doc), k + 1, end)
 }
 
 // What is said of a finding, by its words.

@@ -3,15 +3,14 @@ use Prim.Native.Nat.{_-_, _≤_}
 use mathlib.Core.Path.{_≡_, refl}
 use native.Mathlib.Omega.{arith}
 use lib.ListN.{length}
-use Rattle.reading.specs.Limits.{maxModules}
-use Rattle.text.specs.Near.{Kept}
-use Rattle.text.proofs.EntryLaws.{kept-none}
+use Rattle.text.specs.Near.{KeptModule}
+use Rattle.text.proofs.EntryLaws.{no-module-kept}
 use borrow.Author.Needs.{needs}
 use Rattle.offercheck.proofs.lists.print_list.Statement.{statement}
 use Rattle.offercheck.proofs.lists.print_list.Tie as tie
 
 abbrev Inv-loop : tie.InvT-loop
-Inv-loop doc words all warning places₀ rows₀ table₀ enums₀ claims₀ page₀ at near₀ done₀ places rows table enums claims page near done =
+Inv-loop doc words all warning places₀ rows₀ table₀ enums₀ claims₀ page₀ at done₀ places rows table enums claims page done =
     (all ≤ 65535)
     × (done .at ≤ 49152)
     × (length places ≡ length places₀)
@@ -20,10 +19,10 @@ Inv-loop doc words all warning places₀ rows₀ table₀ enums₀ claims₀ pag
     × (length enums ≡ length enums₀)
     × (length claims ≡ length claims₀)
     × (length page ≡ length page₀)
-    × Kept maxModules doc near
+    × KeptModule doc (done .near)
 
 abbrev μ-loop : tie.MeasureT-loop
-μ-loop doc words all warning places₀ rows₀ table₀ enums₀ claims₀ page₀ at near₀ done₀ places rows table enums claims page near done = all - done .next
+μ-loop doc words all warning places₀ rows₀ table₀ enums₀ claims₀ page₀ at done₀ places rows table enums claims page done = all - done .next
 
 pub print-list-spec : {M : Type 1} → statement M
 print-list-spec =
@@ -31,7 +30,7 @@ print-list-spec =
     (tie.spec
     Inv-loop
     μ-loop
-    (λ c. (omega arith, omega arith, refl, refl, refl, refl, refl, refl, search kept-none))
+    (λ c. (omega arith, omega arith, refl, refl, refl, refl, refl, refl, search no-module-kept))
     (λ c. omega arith)
     (λ c κs. search needs)
     (λ c. search needs)
