@@ -16,10 +16,11 @@ ghost use lib.ListN.{length};
 ghost use Rattle.typing.specs.declared.table.Found.the-variants.{At};
 ghost use Rattle.text.specs.Near.{KeptModule, PickedModule};
 
-// How far a list is put: the number of the next finding, and where its line starts in the page.
+// How far a list is put: the number of the next finding, where the page has room for its line, and the module after the last, which is near.
 pub(crate) struct Reached {
     pub(crate) next: usize,
     pub(crate) at: usize,
+    pub(crate) near: Near,
 }
 
 // The lines of the findings from the next on, as many as there are of the module whose number stands there and whose tables are filled.
@@ -38,6 +39,7 @@ fn print_run<'a>(
     claims: &'a [usize],
     page: &mut [u8],
 ) -> Reached
+    requires { ⌜ KeptModule (now doc) (from .near) ⌝ }
     requires { ⌜ length (now doc) ≤ 0xffff ⌝ }
     requires { ⌜ all ≤ 0xffff ⌝ }
     requires { ⌜ from .next < all ⌝ }
@@ -46,9 +48,10 @@ fn print_run<'a>(
     requires { ⌜ known .claims ≤ length (now claims) ⌝ }
     ensures { λ r. ⌜ from .next < r .next ⌝ }
     ensures { λ r. ⌜ r .at ≤ 0xc000 ⌝ }
-    ensures { λ r. ⌜ r .near ≡ from .near ⌝ }
+    ensures { λ r. ⌜ KeptModule (now (doc .entry)) (r .near) ⌝ }
 {
     let owner = word_at(words, 5 * from.next);
+    let beyond = from.near;
     let mut near = Near::Nothing;
     let mut i = from.next;
     let mut at = from.at;
@@ -57,7 +60,7 @@ fn print_run<'a>(
             return Reached {
                 next: i,
                 at,
-                near: from.near,
+                near: beyond,
             };
         }
         near = look_up_words(doc, words, i, places, rows, known, near);
@@ -83,7 +86,7 @@ fn print_run<'a>(
     Reached {
         next: i,
         at,
-        near: from.near,
+        near: beyond,
     }
 }
 
@@ -102,6 +105,7 @@ fn print_named<'a>(
     claims: &mut [usize],
     page: &mut [u8],
 ) -> Reached
+    requires { ⌜ KeptModule (now doc) (from .near) ⌝ }
     requires { ⌜ length (now doc) ≤ 0xffff ⌝ }
     requires { ⌜ all ≤ 0xffff ⌝ }
     requires { ⌜ from .next < all ⌝ }
@@ -111,7 +115,7 @@ fn print_named<'a>(
     requires { ⌜ length (now claims) ≡ 1020 ⌝ }
     ensures { λ r. ⌜ from .next < r .next ⌝ }
     ensures { λ r. ⌜ r .at ≤ 0xc000 ⌝ }
-    ensures { λ r. ⌜ r .near ≡ from .near ⌝ }
+    ensures { λ r. ⌜ KeptModule (now (doc .entry)) (r .near) ⌝ }
 {
     let known = name_module(doc, places, table, enums, claims);
     print_run(
@@ -213,12 +217,13 @@ pub(crate) fn print_module<'a>(
     ensures { λ r. ⌜ KeptModule (now (doc .entry)) (r .near) ⌝ }
 {
     let k = word_at(words, 5 * from.next) as usize;
-    let f = module_at(doc, k, from.near);
+    let near = from.near;
+    let f = module_at(doc, k, near);
     let Found::At(at) = f else {
         return Reached {
             next: all,
             at: from.at,
-            near: from.near,
+            near,
         };
     };
     print_at(

@@ -31,11 +31,7 @@ print-list-spec =
     Inv-loop
     μ-loop
     (λ c. (omega arith, omega arith, refl, refl, refl, refl, refl, refl, search no-module-kept))
-    (λ c. omega arith)
-    (λ c κs. search needs)
-    (λ c. search needs)
-    (λ c κs. search needs)
-    (λ c κs. (search needs, (search needs, (search needs, (omega arith, (omega arith, (omega arith, (omega arith, (omega arith, (omega arith, omega arith))))))))))
+    (λ c κs. (search needs, (search needs, (search needs, (search needs, (search needs, (omega arith, (omega arith, (omega arith, (omega arith, omega arith))))))))))
     (λ c. omega arith)
     (λ c. (omega arith, omega arith, search needs, search needs, search needs, search needs, search needs, search needs, search needs))
     (λ c. search needs)

@@ -17,7 +17,7 @@ past-first : (w : List ℕ) {owner x k i : ℕ} → owner ≡ getD w (5 * k) 0 �
 past-first w o e n h = lt-of-le-ne h (λ s. n (cc))
 
 abbrev Inv-loop : tie.InvT-loop
-Inv-loop doc words all warning places rows count known table₀ enums claims page₀ owner near₀ i₀ at₀ table page near i at =
+Inv-loop doc words all warning places rows count known table₀ enums claims page₀ owner beyond near₀ i₀ at₀ table page near i at =
     (i₀ ≤ i)
     × (owner ≡ getD words (5 * i₀) 0)
     × (all ≤ 65535)
@@ -27,7 +27,7 @@ Inv-loop doc words all warning places rows count known table₀ enums claims pag
     × Kept maxList doc near
 
 abbrev μ-loop : tie.MeasureT-loop
-μ-loop doc words all warning places rows count known table₀ enums claims page₀ owner near₀ i₀ at₀ table page near i at = all - i
+μ-loop doc words all warning places rows count known table₀ enums claims page₀ owner beyond near₀ i₀ at₀ table page near i at = all - i
 
 pub print-run-spec : {M : Type 1} → statement M
 print-run-spec =
@@ -42,7 +42,7 @@ print-run-spec =
     (λ c κs. search needs)
     (λ c. search needs)
     (λ c. search needs)
-    (λ c. (search past-first, omega arith))
+    (λ c. (search past-first, (omega arith, search needs)))
     (λ c κs. search needs)
     (λ c κs. (search needs, (search needs, (omega arith, (search needs, (search needs, omega arith))))))
     (λ c κs. search needs)
@@ -51,4 +51,4 @@ print-run-spec =
     (λ c. (omega arith, search needs, omega arith, omega arith, search needs, search needs, search needs))
     (λ c. search needs)
     (λ c. search needs)
-    (λ c. (omega arith, omega arith)))
+    (λ c. (omega arith, (omega arith, search needs))))
