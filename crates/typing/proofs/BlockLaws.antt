@@ -1,14 +1,16 @@
 -- A block whose pairs are on their lanes has what its pairs have: a walk along a name's lane passes no pair of the name.
-use Prim.Native.Nat.{ℕ, zero, suc, _+_, _-_, _*_, _/_, _%_, _<_, _≤_}
+use Prim.Native.Nat.{ℕ, zero, suc, _+_, _-_, _*_, _/_, _%_, _^_, _<_, _≤_}
 use mathlib.Core.Path.{_≡_, refl, sym, ap, subst, _∙_}
 use mathlib.Core.Bool.{Bool, true, false}
 use mathlib.Core.List.{List, [], _∷_}
 use mathlib.Core.Option.{Option, none, some}
 use native.Mathlib.Omega.{arith}
+use native.Mathlib.Nat.{le-of-lt, lt-of-le-of-lt, mul-le-mul-left, mul-lt-mul-of-pos-right}
 use native.Mathlib.Decide.{ℕ-discrete}
 use lib.ListN.{length, getD, set, take, length-set}
 use lib.Seq.{sets, length-sets, getD-take, getD-set-same, getD-set-other, take-set-le}
 use lib.Dec.{eqb, ltb}
+use lib.Pow.{pow-pos}
 use borrow.Author.Tests.{eq-eqb, ne-eqb, lt-ltb, le-ltb, ltb-false}
 use Rattle.reading.specs.Read.{Read, ok, refused, pick}
 use Rattle.reading.specs.Limits.{maxList}
@@ -20,11 +22,23 @@ use Rattle.typing.specs.Names.{eqName}
 use Rattle.typing.specs.Causes.{firstOf}
 use Rattle.typing.specs.Table.{pairsOf, pairsAt, Filled, findFirst, found}
 use Rattle.typing.specs.Lanes.{print, Woven}
-use Rattle.typing.specs.Blocks.{nameIn, underIn, headIn, linkIn, laneIn, BlockWoven, alongLane, blockFind, findBlocks, findIn, Keeps, Weaves, Clears}
+use Rattle.typing.specs.Blocks.{nameIn, underIn, headIn, linkIn, keyIn, laneBy, laneIn, BlockWoven, alongLane, blockFind, findBlocks, findIn, Keeps, Weaves, Clears}
 use Rattle.typing.specs.declared.table.Found.{Found}
 use Rattle.typing.specs.declared.table.Found.the-variants.{At, Nothing}
 use Rattle.typing.proofs.TableLaws.{pairs-length, first-none, first-hit, first-miss}
 use Rattle.typing.proofs.LaneLaws.{woven-none, woven-kept, woven-more, find-past}
+
+-- a lane's number
+pub product-fits : {a b : ℕ} → a < 2 ^ 32 → b < 2 ^ 32 → a * b < 2 ^ 64
+product-fits {a} h l = lt-of-le-of-lt (mul-le-mul-left a (le-of-lt l)) (mul-lt-mul-of-pos-right h (pow-pos 32))
+
+pub lane-small : (key p : ℕ) → laneBy key p < 63
+unfolding laneBy
+lane-small key p = omega arith
+
+pub lane-is : (key p n : ℕ) → n ≡ p * (key % 2 ^ 32) → n % 2 ^ 32 / 2 ^ 16 % 63 ≡ laneBy key p
+unfolding laneBy
+lane-is key p n e = ap (λ (m : ℕ). m % 2 ^ 32 / 2 ^ 16 % 63) e
 
 -- o stands under a name along a lane from p on, in f steps at most
 module _ (s : List ℕ) (n : Name) (T : List ℕ) (o f p : ℕ) {x : Option ℕ} (r : alongLane f s n T o p ≡ x) where
@@ -59,9 +73,12 @@ module _ (s : List ℕ) (n : Name) (T : List ℕ) (o f p : ℕ) {x : Option ℕ}
         unfolding pick
         lane-miss q = rw (lane-pair, q)
 
-pub lane-start : (s : List ℕ) (n : Name) (T : List ℕ) (o : ℕ) {h : ℕ} → h ≡ print 0 n % 64 → alongLane 255 s n T o (headIn T o h) ≡ blockFind s n T o
+pub lane-start : (s : List ℕ) (n : Name) (T : List ℕ) (o : ℕ) {h : ℕ} → h ≡ laneBy (keyIn T o) (print 0 n) → alongLane 255 s n T o (headIn T o h) ≡ blockFind s n T o
 unfolding blockFind
 lane-start s n T o e = ap (λ (h : ℕ). alongLane 255 s n T o (headIn T o h)) e
+
+pub name-lane : (n : Name) (key p : ℕ) {lane : ℕ} → p ≡ print 0 n → lane ≡ laneBy key p → lane ≡ laneBy key (print 0 n)
+name-lane n key p e q = q ∙ ap (laneBy key) e
 
 -- what stands under a name in the first b blocks
 module _ (s : List ℕ) (n : Name) (T : List ℕ) (b : ℕ) {x : Option ℕ} (r : findBlocks b s n T ≡ x) where
@@ -92,7 +109,7 @@ word-kept T T′ m e j h = sym (getD-take m T′ j 0 h) ∙ ap (λ (l : List ℕ
 pub clears-none : (T : List ℕ) (o : ℕ) → Clears T o 0 T
 clears-none T o = record { size = refl; kept = refl; empty = λ j h. absurd (omega arith) }
 
-pub clears-more : {T T′ : List ℕ} {o h : ℕ} → Clears T o h T′ → o + 829 ≤ length T → h < 64 → Clears T o (h + 1) (set T′ (o + 510 + h) 0)
+pub clears-more : {T T′ : List ℕ} {o h : ℕ} → Clears T o h T′ → o + 829 ≤ length T → h < 63 → Clears T o (h + 1) (set T′ (o + 510 + h) 0)
 clears-more {T} {T′} {o} {h} c l m = record {
   size = length-set T′ (o + 510 + h) 0 ∙ c .size;
   kept = take-set-le (o + 510) T′ (o + 510 + h) 0 (omega arith) ∙ c .kept;
@@ -103,17 +120,24 @@ clears-more {T} {T′} {o} {h} c l m = record {
     at j a (yes e) = ap (λ (i : ℕ). headIn (set T′ (o + 510 + h) 0) o i) e ∙ getD-set-same T′ (o + 510 + h) 0 0 (let z = c .size in omega arith)
     at j a (no d) = getD-set-other T′ (o + 510 + h) (o + 510 + j) 0 0 (λ (e : o + 510 + j ≡ o + 510 + h). d (omega arith)) ∙ c .empty j (omega arith)
 
-pub clears-all : {T T′ : List ℕ} {o h : ℕ} → Clears T o h T′ → 64 ≤ h → Clears T o 64 T′
-clears-all c l = record { size = c .size; kept = c .kept; empty = λ j a. c .empty j (omega arith) }
+pub clears-all : {T T′ : List ℕ} {o h : ℕ} (key : ℕ) → Clears T o h T′ → 63 ≤ h → Clears T o 63 (set T′ (o + 573) key)
+clears-all {T} {T′} {o} {h} key c l = record {
+  size = length-set T′ (o + 573) key ∙ c .size;
+  kept = take-set-le (o + 510) T′ (o + 573) key (omega arith) ∙ c .kept;
+  empty = λ j a. getD-set-other T′ (o + 573) (o + 510 + j) key 0 (λ (e : o + 510 + j ≡ o + 573). omega arith) ∙ c .empty j (omega arith);
+}
 
 -- the lanes of a cleared block
-pub weaves-none : {s T T′ : List ℕ} {o : ℕ} → Clears T o 64 T′ → Weaves s T′ o 0 T′
+pub weaves-none : {s T T′ : List ℕ} {o : ℕ} → Clears T o 63 T′ → Weaves s T′ o 0 T′
 weaves-none c = record { size = refl; kept = refl; woven = woven-none (c .empty) }
 
-pub weaves-then : {s T T′ T″ : List ℕ} {o i : ℕ} → Weaves s T o i T′ → Weaves s T′ o (i + 1) T″ → Weaves s T o (i + 1) T″
+pub weaves-still : {s T T′ : List ℕ} {o k : ℕ} → Weaves s T o k T′ → Weaves s T′ o k T′
+weaves-still w = record { size = refl; kept = refl; woven = w .woven }
+
+pub weaves-then : {s T T′ T″ : List ℕ} {o i k : ℕ} → Weaves s T o i T′ → Weaves s T′ o k T″ → Weaves s T o k T″
 weaves-then a b = record { size = b .size ∙ a .size; kept = b .kept ∙ a .kept; woven = b .woven }
 
-pub weaves-all : {s T T₁ T₂ : List ℕ} {o i n : ℕ} → Clears T o 64 T₁ → Weaves s T₁ o i T₂ → i ≤ n → n ≤ i → Weaves s T o n T₂
+pub weaves-all : {s T T₁ T₂ : List ℕ} {o i n : ℕ} → Clears T o 63 T₁ → Weaves s T₁ o i T₂ → i ≤ n → n ≤ i → Weaves s T o n T₂
 weaves-all {s} {T} {T₁} {T₂} {o} {i} {n} c w a b =
     let e : i ≡ n = omega arith in
     record { size = w .size ∙ c .size; kept = w .kept ∙ c .kept; woven = subst (BlockWoven s T₂ o) e (w .woven) }
@@ -123,8 +147,8 @@ module _ (s T : List ℕ) (o i : ℕ) (l : o + 829 ≤ length T) (m : i < 255) (
   abbrev c : ℕ
   c = laneIn s T o i
 
-  c-small : c < 64
-  c-small = omega arith
+  c-small : c < 63
+  c-small = lane-small (keyIn T o) (print 0 (textAt s (nameIn T o i)))
 
   abbrev linked : List ℕ
   linked = set T (o + 574 + i) (headIn T o c)
@@ -138,16 +162,22 @@ module _ (s T : List ℕ) (o i : ℕ) (l : o + 829 ≤ length T) (m : i < 255) (
   put-kept : take (o + 510) put ≡ take (o + 510) T
   put-kept = take-set-le (o + 510) linked (o + 510 + c) (i + 1) (omega arith) ∙ take-set-le (o + 510) T (o + 574 + i) (headIn T o c) (omega arith)
 
-  name-same : (j : ℕ) → j < 255 → laneIn s put o j ≡ laneIn s T o j
-  name-same j a = ap (λ (k : ℕ). print 0 (textAt s k) % 64) (word-kept T put (o + 510) put-kept (o + 2 * j) (omega arith))
+  key-same : keyIn put o ≡ keyIn T o
+  key-same =
+      let z = c-small in
+      getD-set-other linked (o + 510 + c) (o + 573) (i + 1) 0 (λ (e : o + 573 ≡ o + 510 + c). omega arith)
+      ∙ getD-set-other T (o + 574 + i) (o + 573) (headIn T o c) 0 (λ (e : o + 573 ≡ o + 574 + i). omega arith)
 
-  head-same : (h : ℕ) → h < 64 → (h ≡ c → ⊥) → headIn put o h ≡ headIn T o h
+  name-same : (j : ℕ) → j < 255 → laneIn s put o j ≡ laneIn s T o j
+  name-same j a = rw (key-same, word-kept T put (o + 510) put-kept (o + 2 * j) (omega arith))
+
+  head-same : (h : ℕ) → h < 63 → (h ≡ c → ⊥) → headIn put o h ≡ headIn T o h
   head-same h a d =
       getD-set-other linked (o + 510 + c) (o + 510 + h) (i + 1) 0 (λ (e : o + 510 + h ≡ o + 510 + c). d (omega arith))
       ∙ getD-set-other T (o + 574 + i) (o + 510 + h) (headIn T o c) 0 (λ (e : o + 510 + h ≡ o + 574 + i). omega arith)
 
   link-put : (j : ℕ) → j < 255 → linkIn put o j ≡ linkIn linked o j
-  link-put j a = getD-set-other linked (o + 510 + c) (o + 574 + j) (i + 1) 0 (λ (e : o + 574 + j ≡ o + 510 + c). omega arith)
+  link-put j a = let z = c-small in getD-set-other linked (o + 510 + c) (o + 574 + j) (i + 1) 0 (λ (e : o + 574 + j ≡ o + 510 + c). omega arith)
 
   weaves-with : Weaves s T o (i + 1) put
   weaves-with = record {
@@ -155,28 +185,28 @@ module _ (s T : List ℕ) (o i : ℕ) (l : o + 829 ≤ length T) (m : i < 255) (
     kept = put-kept;
     woven = woven-kept
         (woven-more w c-small
-        (getD-set-same linked (o + 510 + c) (i + 1) 0 (let z = linked-size in omega arith))
+        (getD-set-same linked (o + 510 + c) (i + 1) 0 (let z = linked-size in let y = c-small in omega arith))
         head-same
         (link-put i m ∙ getD-set-same T (o + 574 + i) (headIn T o c) 0 (omega arith))
         (λ j a. link-put j (omega arith) ∙ getD-set-other T (o + 574 + i) (o + 574 + j) (headIn T o c) 0 (λ (e : o + 574 + j ≡ o + 574 + i). omega arith)))
         (λ j a. name-same j (omega arith)) (λ h a. refl) (λ j a. refl);
   }
 
-  pub weaves-more : {key : Name} {lane : ℕ} {T₁ T₂ : List ℕ} → key ≡ textAt s (nameIn T o i) → lane ≡ print 0 key % 64 → T₁ ≡ set T (o + 574 + i) (headIn T o lane) → T₂ ≡ set T₁ (o + 510 + lane) (i + 1) → Weaves s T o (i + 1) T₂
-  weaves-more t e a b = rw (b, a, e, t) weaves-with
+  pub weaves-more : {name : Name} {p lane : ℕ} {T₁ T₂ : List ℕ} → name ≡ textAt s (nameIn T o i) → p ≡ print 0 name → lane ≡ laneBy (keyIn T o) p → T₁ ≡ set T (o + 574 + i) (headIn T o lane) → T₂ ≡ set T₁ (o + 510 + lane) (i + 1) → Weaves s T o (i + 1) T₂
+  weaves-more t q e a b = rw (b, a, e, q, t) weaves-with
 
 -- a walk along a name's lane finds what the pairs have under the name
 module _ (s pairs T : List ℕ) (o k : ℕ) (n : Name) (few : k ≤ 255) (same : (j : ℕ) → j < 2 * k → getD T (o + j) 0 ≡ getD pairs j 0) (w : BlockWoven s T o k) where
-  abbrev lane : ℕ → ℕ
-  lane j = print 0 (textAt s (getD pairs (2 * j) 0)) % 64
+  abbrev lane : Name → ℕ
+  lane x = laneBy (keyIn T o) (print 0 x)
 
-  lane-same : (j : ℕ) → j < k → laneIn s T o j ≡ lane j
-  lane-same j h = ap (λ (a : ℕ). print 0 (textAt s a) % 64) (same (2 * j) (omega arith))
+  lane-same : (j : ℕ) → j < k → laneIn s T o j ≡ lane (textAt s (getD pairs (2 * j) 0))
+  lane-same j h = ap (λ (a : ℕ). lane (textAt s a)) (same (2 * j) (omega arith))
 
   under-same : (i : ℕ) → i < k → underIn T o i ≡ getD pairs (2 * i + 1) 0
   under-same i h = ap (λ (a : ℕ). getD T a 0) (let z : o + 2 * i + 1 ≡ o + (2 * i + 1) = omega arith in z) ∙ same (2 * i + 1) (omega arith)
 
-  along : (f p : ℕ) → p ≤ f → p ≤ k → (0 < p → laneIn s T o (p - 1) ≡ print 0 n % 64) → alongLane f s n T o p ≡ findFirst s n pairs p
+  along : (f p : ℕ) → p ≤ f → p ≤ k → (0 < p → laneIn s T o (p - 1) ≡ lane n) → alongLane f s n T o p ≡ findFirst s n pairs p
   unfolding alongLane findFirst pick
   along zero p h l on = let z : p ≡ 0 = omega arith in sym (ap (findFirst s n pairs) z)
   along (suc f) zero h l on = refl
@@ -186,15 +216,16 @@ module _ (s pairs T : List ℕ) (o k : ℕ) (n : Name) (few : k ≤ 255) (same :
       let g = w .link-low i m in
       let o′ = ap (laneIn s T o) (sym z) ∙ on (omega arith) in
       let v = along f (linkIn T o i) (omega arith) (omega arith) (λ x. w .link-on i m x ∙ o′)
-      ∙ find-past 64 s pairs n (linkIn T o i) i g (λ j a b q. w .link-last i j m b a (lane-same j (omega arith) ∙ q ∙ sym o′)) in
+      ∙ find-past lane s pairs n (linkIn T o i) i g (λ j a b q. w .link-last i j m b a (lane-same j (omega arith) ∙ q ∙ sym o′)) in
       rw (ne-eqb (suc i) 0 (λ (e : suc i ≡ 0). omega arith), le-ltb 255 (suc i) (omega arith), z, same (2 * i) (omega arith), under-same i m, v)
 
   pub block-finds : blockFind s n T o ≡ findFirst s n pairs k
   unfolding blockFind
   block-finds =
-      let h : print 0 n % 64 < 64 = omega arith in
-      along 255 (headIn T o (print 0 n % 64)) (let z = w .head-low (print 0 n % 64) h in omega arith) (w .head-low (print 0 n % 64) h) (w .head-on (print 0 n % 64) h)
-      ∙ find-past 64 s pairs n (headIn T o (print 0 n % 64)) k (w .head-low (print 0 n % 64) h) (λ j a b q. w .head-last (print 0 n % 64) j h b a (lane-same j b ∙ q))
+      let h = lane-small (keyIn T o) (print 0 n) in
+      let l = w .head-low (lane n) h in
+      along 255 (headIn T o (lane n)) (omega arith) l (w .head-on (lane n) h)
+      ∙ find-past lane s pairs n (headIn T o (lane n)) k l (λ j a b q. w .head-last (lane n) j h b a (lane-same j b ∙ q))
 
 -- the pairs of a woven block
 pub keeps : (s pairs T : List ℕ) {T′ : List ℕ} {o k : ℕ} → k ≤ 255 → length pairs ≡ 2 * k → Weaves s T o k T′ → ((j : ℕ) → j < 2 * k → getD T (o + j) 0 ≡ getD pairs j 0) → Keeps s pairs T′ o
@@ -254,7 +285,9 @@ module _ (s : List ℕ) (n : Name) (T T′ : List ℕ) (o : ℕ) (g : (j : ℕ) 
 
   pub block-kept : blockFind s n T′ o ≡ blockFind s n T o
   unfolding blockFind
-  block-kept = let h : print 0 n % 64 < 64 = omega arith in ap (alongLane 255 s n T′ o) (g (o + 510 + print 0 n % 64) (omega arith)) ∙ along-kept 255 (headIn T o (print 0 n % 64))
+  block-kept =
+      let h = lane-small (keyIn T o) (print 0 n) in
+      rw (g (o + 573) (omega arith), g (o + 510 + laneBy (keyIn T o) (print 0 n)) (omega arith)) (along-kept 255 (headIn T o (laneBy (keyIn T o) (print 0 n))))
 
 pub keeps-taken : (s pairs T : List ℕ) (o m : ℕ) → o + 829 ≤ m → Keeps s pairs T o → Keeps s pairs (take m T) o
 keeps-taken s pairs T o m h k = record { finds = λ n. block-kept s n T (take m T) o (λ j a. getD-take m T j 0 (omega arith)) ∙ k .finds n }

@@ -192,17 +192,20 @@ module _ {n : ℕ} {s table : List ℕ} {k : ℕ} {heads links : List ℕ} (r : 
   pair-found w = rw (add-one k, pair-name, pair-value, find-kept s w table (put table k a v) k (words-kept table k a v))
 
 -- names of other lanes differ
-pub lane-apart : (c : ℕ) (x n : Name) → (print 0 x % c ≡ print 0 n % c → ⊥) → eqName x n ≡ false
-lane-apart c x n h = by (eqName x n) (λ q. absurd (h (ap (λ (y : Name). print 0 y % c) (eqName-eq x n q)))) (λ q. q)
+apart-by : (lane : Name → ℕ) (x n : Name) → (lane x ≡ lane n → ⊥) → eqName x n ≡ false
+apart-by lane x n h = by (eqName x n) (λ q. absurd (h (ap lane (eqName-eq x n q)))) (λ q. q)
 
-module _ (c : ℕ) (s table : List ℕ) (n : Name) (p : ℕ) where
-  pub find-past : (k : ℕ) → p ≤ k → ((j : ℕ) → p ≤ j → j < k → print 0 (textAt s (getD table (2 * j) 0)) % c ≡ print 0 n % c → ⊥) → findFirst s n table p ≡ findFirst s n table k
+pub lane-apart : (c : ℕ) (x n : Name) → (print 0 x % c ≡ print 0 n % c → ⊥) → eqName x n ≡ false
+lane-apart c = apart-by (λ x. print 0 x % c)
+
+module _ (lane : Name → ℕ) (s table : List ℕ) (n : Name) (p : ℕ) where
+  pub find-past : (k : ℕ) → p ≤ k → ((j : ℕ) → p ≤ j → j < k → lane (textAt s (getD table (2 * j) 0)) ≡ lane n → ⊥) → findFirst s n table p ≡ findFirst s n table k
   unfolding findFirst pick
   find-past zero h f = let z : p ≡ 0 = omega arith in ap (findFirst s n table) z
   find-past (suc k) h f =
       by (ltb k p) (λ q. let l = ltb-true k p q in let z : p ≡ suc k = omega arith in ap (findFirst s n table) z) (λ q.
       let l = ltb-false k p q in
-      rw (lane-apart c (textAt s (getD table (2 * k) 0)) n (f k l (omega arith))) (find-past k l (λ j a b. f j a (omega arith))))
+      rw (apart-by lane (textAt s (getD table (2 * k) 0)) n (f k l (omega arith))) (find-past k l (λ j a b. f j a (omega arith))))
 
 -- the walk for a name has come to pair p - 1, which is on its lane, and no later one of the first k has the name
 pub record Walking (s table : List ℕ) (k : ℕ) (links : List ℕ) (n : Name) (p : ℕ) : Type 0 where
@@ -217,7 +220,7 @@ module _ (s table : List ℕ) {k : ℕ} {heads links : List ℕ} (w : Lanes s ta
   walk-at {p} {m} l h o f r =
       let y = w .table-room in
       let z = w .links-room in
-      record { low = omega arith; table-room = omega arith; links-room = omega arith; on = o; rest = find-past 1024 s table n p m l f ∙ r }
+      record { low = omega arith; table-room = omega arith; links-room = omega arith; on = o; rest = find-past (λ x. print 0 x % 1024) s table n p m l f ∙ r }
 
   pub walk-start : {h : ℕ} → h ≡ print 0 n % 1024 → Walking s table k links n (getD heads h 0)
   walk-start {h} e =

@@ -1,7 +1,7 @@
--- Tables of blocks. A block holds up to 255 pairs of places, of a name and of what is declared under it, on 64 lanes by the name's print. It has
--- 829 words: the pairs, then a head for each lane, then a link for each pair. A head or a link is one more than a pair's number; a lane ends
--- where there is no such pair. The pairs of a lane are looked through from the last on, and so are the blocks of a table.
-use Prim.Native.Nat.{ℕ, zero, suc, _+_, _-_, _*_, _/_, _%_, _<_}
+-- Tables of blocks. A block holds up to 255 pairs of places, of a name and of what is declared under it, on 63 lanes by the name's print and the
+-- block's key. It has 829 words: the pairs, then a head for each lane, then the key, then a link for each pair. A head or a link is one more than a
+-- pair's number; a lane ends where there is no such pair. The pairs of a lane are looked through from the last on, and so are the blocks of a table.
+use Prim.Native.Nat.{ℕ, zero, suc, _+_, _-_, _*_, _/_, _%_, _^_, _<_}
 use mathlib.Core.Path.{_≡_}
 use mathlib.Core.List.{List}
 use mathlib.Core.Option.{Option, none, some}
@@ -17,7 +17,7 @@ use Rattle.typing.specs.Lanes.{print, Woven}
 use Rattle.typing.specs.Table.{lastIn, typeFound, variantFound}
 use Rattle.typing.specs.Segments.{variantHeld}
 
--- the words of the block from word o on: the name of pair i and what is under it, the head of a lane, the link of a pair
+-- the words of the block from word o on: the name of pair i and what is under it, the head of a lane, the link of a pair, the key
 abbrev pub nameIn : List ℕ → ℕ → ℕ → ℕ
 nameIn T o i = getD T (o + 2 * i) 0
 
@@ -30,12 +30,19 @@ headIn T o h = getD T (o + 510 + h) 0
 abbrev pub linkIn : List ℕ → ℕ → ℕ → ℕ
 linkIn T o i = getD T (o + 574 + i) 0
 
+abbrev pub keyIn : List ℕ → ℕ → ℕ
+keyIn T o = getD T (o + 573) 0
+
+-- the lane of a print by a key
+unfoldable pub laneBy : ℕ → ℕ → ℕ
+laneBy key p = p * (key % 2 ^ 32) % 2 ^ 32 / 2 ^ 16 % 63
+
 abbrev pub laneIn : List ℕ → List ℕ → ℕ → ℕ → ℕ
-laneIn s T o i = print 0 (textAt s (nameIn T o i)) % 64
+laneIn s T o i = laneBy (keyIn T o) (print 0 (textAt s (nameIn T o i)))
 
 -- the first k pairs of the block are on their lanes
 abbrev pub BlockWoven : List ℕ → List ℕ → ℕ → ℕ → Type 0
-BlockWoven s T o k = Woven 64 (laneIn s T o) k (headIn T o) (linkIn T o)
+BlockWoven s T o k = Woven 63 (laneIn s T o) k (headIn T o) (linkIn T o)
 
 -- what stands under a name along a lane, from a head or link on, in so many steps at most
 unfoldable pub alongLane : ℕ → List ℕ → Name → List ℕ → ℕ → ℕ → Option ℕ
@@ -47,7 +54,7 @@ alongLane (suc f) s n T o p =
 
 -- in the block from word o on
 unfoldable pub blockFind : List ℕ → Name → List ℕ → ℕ → Option ℕ
-blockFind s n T o = alongLane 255 s n T o (headIn T o (print 0 n % 64))
+blockFind s n T o = alongLane 255 s n T o (headIn T o (laneBy (keyIn T o) (print 0 n)))
 
 -- in the first b blocks
 unfoldable pub findBlocks : ℕ → List ℕ → Name → List ℕ → Option ℕ

@@ -1,5 +1,5 @@
-// Tables of blocks: names and what is declared under each, as pairs of places on lanes. A block has 829 words: 255 pairs, 64 heads of
-// lanes, and 255 links.
+// Tables of blocks: names and what is declared under each, as pairs of places on lanes. A block has 829 words: 255 pairs, 63 heads of
+// lanes, a key, and 255 links.
 use crate::fill::fill_table;
 use crate::fill::store;
 use crate::lanes::print_bytes;
@@ -7,18 +7,19 @@ use crate::names::same;
 use crate::table::Found;
 use reading::text_at;
 ghost use mathlib.Core.Path.{_≡_};
-ghost use Prim.Native.Nat.{_+_, _*_, _%_, _<_, _≤_};
+ghost use Prim.Native.Nat.{_+_, _*_, _<_, _≤_};
 ghost use lib.ListN.{length};
 ghost use Rattle.typing.specs.Table.{found, pairsAt};
 ghost use Rattle.typing.specs.Lanes.{print};
-ghost use Rattle.typing.specs.Blocks.{BlockWoven, blockFind, findIn, Keeps, Weaves, Clears};
+ghost use Rattle.typing.specs.Blocks.{laneBy, keyIn, BlockWoven, blockFind, findIn, Keeps, Weaves, Clears};
 
-// The lane of a name in a block.
-fn block_lane(name: &[u8]) -> usize
-    ensures { λ r. ⌜ r ≡ print 0 (now (name .entry)) % 64 ⌝ }
-    ensures { λ r. ⌜ r < 64 ⌝ }
+// The lane of a print by a key. Names of one lane by a key are of many by another, if their prints differ.
+fn block_lane(print: u32, key: usize) -> usize
+    ensures { λ r. ⌜ r ≡ laneBy key print ⌝ }
+    ensures { λ r. ⌜ r < 63 ⌝ }
 {
-    (print_bytes(name, 0) % 64) as usize
+    let n = (print as u64) * ((key % 4294967296) as u64);
+    (n % 4294967296 / 65536 % 63) as usize
 }
 
 // What stands under a name in the block from word o on, by the name's lane.
@@ -30,8 +31,8 @@ fn find_in_block<'a>(
     name: &'a [u8],
 ) -> Found
     requires { ⌜ o + 829 ≤ length (now table) ⌝ }
-    requires { ⌜ lane < 64 ⌝ }
-    requires { ⌜ lane ≡ print 0 (now name) % 64 ⌝ }
+    requires { ⌜ lane < 63 ⌝ }
+    requires { ⌜ lane ≡ laneBy (keyIn (now table) o) (print 0 (now name)) ⌝ }
     ensures { λ r. ⌜ r ≡ found (blockFind (now (doc .entry)) (now (name .entry)) (now (table .entry)) o) ⌝ }
 {
     let mut p = table[o + 510 + lane];
@@ -57,11 +58,13 @@ fn find_in_block<'a>(
 pub fn find<'a>(doc: &'a [u8], table: &'a [usize], name: &'a [u8]) -> Found
     ensures { λ r. ⌜ r ≡ found (findIn (now (doc .entry)) (now (name .entry)) (now (table .entry))) ⌝ }
 {
-    let lane = block_lane(name);
+    let p = print_bytes(name, 0);
     let mut b = table.len() / 829;
     while 0 < b {
         b -= 1;
-        let f = find_in_block(doc, table, 829 * b, lane, name);
+        let o = 829 * b;
+        let lane = block_lane(p, table[o + 573]);
+        let f = find_in_block(doc, table, o, lane, name);
         match f {
             Found::At(place) => {
                 return Found::At(place);
@@ -72,42 +75,85 @@ pub fn find<'a>(doc: &'a [u8], table: &'a [usize], name: &'a [u8]) -> Found
     Found::Nothing
 }
 
-// Empties the lanes of the block from word o on.
-fn clear_lanes(table: &mut [usize], o: usize)
+// Empties the lanes of the block from word o on, and gives it a key.
+fn clear_lanes(table: &mut [usize], o: usize, key: usize)
     requires { ⌜ o + 829 ≤ length (now table) ⌝ }
-    ensures { λ _. ⌜ Clears (now (table .entry)) o 64 (now (table .exit)) ⌝ }
+    ensures { λ _. ⌜ Clears (now (table .entry)) o 63 (now (table .exit)) ⌝ }
 {
     let mut h: usize = 0;
-    while h < 64 {
+    while h < 63 {
         table[o + 510 + h] = 0;
         h += 1;
     }
+    table[o + 573] = key;
 }
 
-// Puts pair i of the block from word o on upon its lane.
+// Puts pair i of the block from word o on upon its lane by the block's key.
 fn weave_pair(doc: &[u8], table: &mut [usize], o: usize, i: usize)
     requires { ⌜ o + 829 ≤ length (now table) ⌝ }
     requires { ⌜ i < 255 ⌝ }
     requires { ⌜ BlockWoven (now doc) (now table) o i ⌝ }
     ensures { λ _. ⌜ Weaves (now (doc .entry)) (now (table .entry)) o (i + 1) (now (table .exit)) ⌝ }
 {
-    let h = o + 510 + block_lane(text_at(doc, table[o + 2 * i]));
+    let p = print_bytes(text_at(doc, table[o + 2 * i]), 0);
+    let h = o + 510 + block_lane(p, table[o + 573]);
     let head = table[h];
     store(table, o + 574 + i, head);
     store(table, h, i + 1);
 }
 
-// Puts the first n pairs of the block from word o on upon their lanes.
+// Puts the first n pairs of the block from word o on upon their lanes by a key.
+fn weave_by(doc: &[u8], table: &mut [usize], o: usize, n: usize, key: usize)
+    requires { ⌜ o + 829 ≤ length (now table) ⌝ }
+    requires { ⌜ n ≤ 255 ⌝ }
+    ensures { λ _. ⌜ Weaves (now (doc .entry)) (now (table .entry)) o n (now (table .exit)) ⌝ }
+{
+    clear_lanes(table, o, key);
+    let mut i: usize = 0;
+    while i < n {
+        weave_pair(doc, table, o, i);
+        i += 1;
+    }
+}
+
+// Whether a lane has more than 12 of the first n pairs; fewer than 17 pairs crowd none. A pair is one further along its lane than the pair
+// that its link leads to.
+fn crowded(table: &[usize], o: usize, n: usize) -> bool
+    requires { ⌜ o + 829 ≤ length (now table) ⌝ }
+    requires { ⌜ n ≤ 255 ⌝ }
+{
+    if n < 17 {
+        return false;
+    }
+    let mut depths = [0u8; 256];
+    let mut i: usize = 0;
+    while i < n {
+        let d = depths[table[o + 574 + i] % 256];
+        if 11 < d {
+            return true;
+        }
+        depths[i + 1] = d + 1;
+        i += 1;
+    }
+    false
+}
+
+// Puts the first n pairs of the block from word o on upon their lanes: by the first of 8 keys that crowds no lane, or by the last.
 pub fn weave(doc: &[u8], table: &mut [usize], o: usize, n: usize)
     requires { ⌜ o + 829 ≤ length (now table) ⌝ }
     requires { ⌜ n ≤ 255 ⌝ }
     ensures { λ _. ⌜ Weaves (now (doc .entry)) (now (table .entry)) o n (now (table .exit)) ⌝ }
 {
-    clear_lanes(table, o);
-    let mut i: usize = 0;
-    while i < n {
-        weave_pair(doc, table, o, i);
-        i += 1;
+    let mut key: usize = 2654435769;
+    weave_by(doc, table, o, n, key);
+    let mut left: usize = 7;
+    while 0 < left {
+        if !crowded(table, o, n) {
+            return;
+        }
+        key = key * 16777619 % 4294967296;
+        weave_by(doc, table, o, n, key);
+        left -= 1;
     }
 }
 

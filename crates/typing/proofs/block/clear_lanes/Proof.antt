@@ -8,10 +8,10 @@ use Rattle.typing.proofs.block.clear_lanes.Statement.{statement}
 use Rattle.typing.proofs.block.clear_lanes.Tie as tie
 
 abbrev Inv-loop : tie.InvT-loop
-Inv-loop table₀ o h₀ table h = Clears table₀ o h table × (h ≤ 64)
+Inv-loop table₀ o key h₀ table h = Clears table₀ o h table × (h ≤ 63)
 
 abbrev μ-loop : tie.MeasureT-loop
-μ-loop table₀ o h₀ table h = 64 - h
+μ-loop table₀ o key h₀ table h = 63 - h
 
 pub clear-lanes-spec : {M : Type 1} → statement M
 clear-lanes-spec =
@@ -27,5 +27,8 @@ clear-lanes-spec =
     (λ c. omega arith)
     (λ c. omega arith)
     (λ c. (search clears-more, omega arith))
+    (λ c. omega arith)
+    (λ c. omega arith)
+    (λ c. omega arith)
     (λ c. search needs)
     (λ c. search clears-all))

@@ -5,15 +5,15 @@ use native.Mathlib.Omega.{arith}
 use lib.ListN.{length}
 use borrow.Author.Needs.{needs}
 use Rattle.typing.specs.Blocks.{findBlocks, findIn}
-use Rattle.typing.proofs.BlockLaws.{blocks-start, blocks-none, blocks-hit, blocks-miss}
+use Rattle.typing.proofs.BlockLaws.{name-lane, blocks-start, blocks-none, blocks-hit, blocks-miss}
 use Rattle.typing.proofs.block.find.Statement.{statement}
 use Rattle.typing.proofs.block.find.Tie as tie
 
 abbrev Inv-loop : tie.InvT-loop
-Inv-loop doc table name lane b₀ b = (829 * b ≤ length table) × (findBlocks b doc name table ≡ findIn doc name table)
+Inv-loop doc table name p b₀ b = (829 * b ≤ length table) × (findBlocks b doc name table ≡ findIn doc name table)
 
 abbrev μ-loop : tie.MeasureT-loop
-μ-loop doc table name lane b₀ b = b
+μ-loop doc table name p b₀ b = b
 
 pub find-spec : {M : Type 1} → statement M
 find-spec =
@@ -25,7 +25,11 @@ find-spec =
     (λ c. (omega arith, blocks-start _ _ _))
     (λ c. omega arith)
     (λ c. omega arith)
-    (λ c κs. (omega arith, (omega arith, search needs)))
+    (λ c. omega arith)
+    (λ c. omega arith)
+    (λ c. omega arith)
+    (λ c κs. search needs)
+    (λ c κs. (omega arith, (search needs, search name-lane)))
     (λ c. search needs)
     (λ c. search blocks-hit)
     (λ c. search needs)

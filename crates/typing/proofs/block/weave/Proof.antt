@@ -1,18 +1,18 @@
--- Pair by pair: those before are on their lanes.
-use Prim.Native.Nat.{_+_, _-_, _≤_}
+-- Each key leaves the pairs on their lanes.
+use Prim.Native.Nat.{_+_, _^_, _<_, _≤_}
 use native.Mathlib.Omega.{arith}
 use borrow.Author.Needs.{needs}
 use lib.ListN.{length}
 use Rattle.typing.specs.Blocks.{Weaves}
-use Rattle.typing.proofs.BlockLaws.{weaves-none, weaves-then, weaves-all}
+use Rattle.typing.proofs.BlockLaws.{weaves-still, weaves-then}
 use Rattle.typing.proofs.block.weave.Statement.{statement}
 use Rattle.typing.proofs.block.weave.Tie as tie
 
 abbrev Inv-loop : tie.InvT-loop
-Inv-loop doc table₀ o n i₀ table i = Weaves doc table₀ o i table × (i ≤ n) × (o + 829 ≤ length table)
+Inv-loop doc table₀ o n key₀ left₀ table key left = Weaves doc table₀ o n table × (key < 2 ^ 32) × (o + 829 ≤ length table)
 
 abbrev μ-loop : tie.MeasureT-loop
-μ-loop doc table₀ o n i₀ table i = n - i
+μ-loop doc table₀ o n key₀ left₀ table key left = left
 
 pub weave-spec : {M : Type 1} → statement M
 weave-spec =
@@ -21,10 +21,14 @@ weave-spec =
     Inv-loop
     μ-loop
     (λ c κs. search needs)
-    (λ c. (search weaves-none, omega arith, omega arith))
-    (λ c κs. (omega arith, (omega arith, search needs)))
+    (λ c. (search weaves-still, omega arith, omega arith))
+    (λ c κs. search needs)
+    (λ c. search needs)
+    (λ c. search weaves-then)
+    (λ c. omega arith)
+    (λ c κs. search needs)
     (λ c. omega arith)
     (λ c. omega arith)
     (λ c. (search weaves-then, omega arith, omega arith))
     (λ c. search needs)
-    (λ c. weaves-all (c .before .before .before .before .clear-lanes .ensures) (c .before .loop .inv .0) (c .before .loop .inv .1) (c .loop-test .left)))
+    (λ c. search weaves-then))

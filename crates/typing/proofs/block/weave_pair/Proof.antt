@@ -5,9 +5,6 @@ use Rattle.typing.proofs.BlockLaws.{weaves-more}
 use Rattle.typing.proofs.block.weave_pair.Statement.{statement}
 use Rattle.typing.proofs.block.weave_pair.Tie as tie
 
-returns : tie.Need-returns
-returns c = weaves-more _ _ _ _ (c .before .before .before .before .before .before .before .before .before .before .before .before .before .before .pre .0) (c .before .before .before .before .before .before .before .before .before .before .before .before .before .before .pre .1 .0) (c .before .before .before .before .before .before .before .before .before .before .before .before .before .before .pre .1 .1) (c .before .before .before .before .before .before .before .before .before .before .text-at .ensures) (c .before .before .before .before .before .before .before .before .before .block-lane .ensures .0) (c .before .before .before .before .before .before .store .ensures) (c .before .before .store2 .ensures)
-
 pub weave-pair-spec : {M : Type 1} → statement M
 weave-pair-spec =
     tie.close
@@ -16,8 +13,12 @@ weave-pair-spec =
     (λ c. omega arith)
     (λ c. omega arith)
     (λ c. omega arith)
-    (λ c. omega arith)
     (λ c κs. search needs)
+    (λ c κs. search needs)
+    (λ c. omega arith)
+    (λ c. omega arith)
+    (λ c. omega arith)
+    (λ c. omega arith)
     (λ c κs. search needs)
     (λ c. omega arith)
     (λ c. omega arith)
@@ -28,4 +29,4 @@ weave-pair-spec =
     (λ c. omega arith)
     (λ c κs. search needs)
     (λ c. search needs)
-    returns)
+    (λ c. search weaves-more))
