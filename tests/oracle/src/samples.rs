@@ -5,6 +5,7 @@
 use crate::encode::encode;
 use crate::generate::build::*;
 use crate::lang::ir::*;
+use std::collections::HashMap;
 
 /// A benchmark document under its file name.
 #[derive(Clone)]
@@ -97,6 +98,8 @@ pub fn costly() -> Vec<Sample> {
         ("sets", sets()),
         ("mentions", mentions()),
         ("lane", one_lane()),
+        ("print", one_print()),
+        ("shared", claim_lane()),
         ("bound", bound()),
         ("inits", inits()),
         ("variants", variants()),
@@ -113,13 +116,26 @@ pub fn costly() -> Vec<Sample> {
 /// 11 modules of as many properties and assumptions as there may be, all of
 /// different names.
 fn claims() -> Ir {
-    let named = |k: usize| property(&format!("p{k:03}"), holds(boolean(true)));
+    claimed((0..510).map(|k| format!("p{k:03}")).collect(), 11)
+}
+
+/// The same of 9 modules, with names that the port has on one of its 1,024
+/// lanes.
+fn claim_lane() -> Ir {
+    let names = (0..).map(|k| format!("p{k:06}"));
+    let one = names.filter(|n| print_of(n) % 1_024 == 0);
+    claimed(one.take(510).collect(), 9)
+}
+
+/// So many modules of properties and assumptions of 510 names.
+fn claimed(names: Vec<String>, modules: usize) -> Ir {
+    let named = |n: &String| property(n, holds(boolean(true)));
     let module = |k: usize| Module {
-        properties: (0..255).map(named).collect(),
-        assumptions: (255..510).map(named).collect(),
+        properties: names[..255].iter().map(named).collect(),
+        assumptions: names[255..].iter().map(named).collect(),
         ..bare(&format!("M{k}"))
     };
-    ir((0..11).map(module).collect())
+    ir((0..modules).map(module).collect())
 }
 
 /// One transition whose guard is 3,900 equalities of as many names.
@@ -237,19 +253,50 @@ fn mentions() -> Ir {
     }])
 }
 
-/// The same of 255 variables whose names the port has on one of its 64 lanes,
-/// 3,600 times.
+/// The same of 255 variables whose names the port has on one of its 63 lanes
+/// by its first key, 3,600 times.
 fn one_lane() -> Ir {
-    let print = |h: u32, b: u8| h.wrapping_mul(16_777_619).wrapping_add(b.into());
-    let lane = |n: &String| n.bytes().fold(0, print) % 64;
+    let lane = |n: &String| print_of(n).wrapping_mul(2_654_435_769) / 65_536 % 63;
     let names = (0..).map(|k| format!("v{k:05}")).filter(|n| lane(n) == 0);
-    let vars: Vec<VarDecl> = names.take(255).map(|n| var(&n, bit(8), int(0))).collect();
-    let first = path(&[vars[0].name.as_str()]);
+    first_of(names.take(255).collect(), 1_800)
+}
+
+/// The same of 255 variables whose names have one print, 3,200 times.
+fn one_print() -> Ir {
+    first_of(of_one_print(255), 1_600)
+}
+
+/// The print that the port makes of a name.
+fn print_of(name: &str) -> u32 {
+    let step = |h: u32, b: u8| h.wrapping_mul(16_777_619).wrapping_add(b.into());
+    name.bytes().fold(0, step)
+}
+
+/// So many names of nine letters that have one print: the last four make up for
+/// the first five.
+fn of_one_print(many: usize) -> Vec<String> {
+    let letter = |k: u32| char::from_digit(k % 32, 32).unwrap_or('0');
+    let four = |k: u32| -> String { [15, 10, 5, 0].map(|n| letter(k >> n)).iter().collect() };
+    let five = |k: u32| format!("{}{}", letter(10 + (k >> 20)), four(k));
+    let ends: HashMap<u32, u32> = (0..1 << 20).map(|k| (print_of(&four(k)), k)).collect();
+    let weight = 16_777_619_u32.wrapping_pow(4);
+    let ending = |k: u32| {
+        let rest = 0_u32.wrapping_sub(print_of(&five(k)).wrapping_mul(weight));
+        ends.get(&rest).map(|e| five(k) + &four(*e))
+    };
+    (0..4 << 20).filter_map(ending).take(many).collect()
+}
+
+/// One transition whose guard says so many times that the first of some
+/// variables is less than itself.
+fn first_of(names: Vec<String>, many: usize) -> Ir {
+    let vars: Vec<VarDecl> = names.iter().map(|n| var(n, bit(8), int(0))).collect();
+    let first = path(&[names[0].as_str()]);
     let less = binary(BinOp::Lt, first.clone(), first);
     ir(vec![Module {
         vars,
         transitions: vec![Transition {
-            guard: Some(joined(BinOp::LogicOr, vec![less; 1_800])),
+            guard: Some(joined(BinOp::LogicOr, vec![less; many])),
             ..mixed_step(2)
         }],
         ..mixed("Link", 0, 1)
