@@ -31,7 +31,6 @@ pub mod OpeningLaws
 pub mod OnErrorLaws
 pub mod ClaimLaws
 pub mod GuardLaws
-pub mod LaneLaws
 pub mod SetLaws
 pub mod EmitLaws
 pub mod TransitionLaws

@@ -1,6 +1,6 @@
 -- Marks of the variables whose names are mentioned: lists of names one after another, one name, an expression, and lists of the
 -- document entry by entry.
-use Prim.Native.Nat.{ℕ, suc, _+_, _-_, _*_, _/_, _%_, _<_, _≤_}
+use Prim.Native.Nat.{ℕ, suc, _+_, _-_, _*_, _/_, _<_, _≤_}
 use mathlib.Core.Path.{_≡_, refl, sym, ap, subst, _∙_}
 use mathlib.Core.Logic.{_⊎_, inl, inr}
 use mathlib.Core.Bool.{Bool, true, false, cond}
@@ -33,11 +33,11 @@ use Rattle.reading.proofs.CaseViews.{expr-at}
 use Rattle.reading.proofs.ListViews.{list-at}
 use Rattle.reading.proofs.Walks.{name-text}
 use Rattle.typing.specs.Names.{eqName, member}
-use Rattle.typing.specs.Lanes.{print, laneOf, Lanes}
+use Rattle.typing.specs.Lanes.{laneBy, laneOf, keyOf, Lanes}
 use Rattle.typing.specs.Tells.{Ends}
 use Rattle.typing.specs.Table.{Past}
 use Rattle.typing.proofs.TableLaws.{tag-out}
-use Rattle.typing.proofs.LaneLaws.{lane-apart}
+use Rattle.typing.proofs.LaneLaws.{lane-small, lane-apart}
 use Rattle.typing.proofs.EnvLaws.{entry, after-is}
 use Rattle.typing.proofs.TypeLaws.{fields-are}
 use Rattle.findings.specs.Lists.{each}
@@ -146,30 +146,30 @@ module _ (s names : List ℕ) (n : Name) (m : List ℕ) where
   abbrev pub Turned : List ℕ → ℕ → Type 0
   Turned m′ j = getD m′ j 0 ≡ cond (eqName n (varAt s names j)) 1 (getD m j 0)
 
-  pub record Touching (p : ℕ) (m′ : List ℕ) : Type 0 where
+  pub record Touching (heads : List ℕ) (p : ℕ) (m′ : List ℕ) : Type 0 where
     pub low : p ≤ length names / 2
-    pub on : 0 < p → laneOf s names (p - 1) ≡ print 0 n % 1024
+    pub on : 0 < p → laneOf s names (keyOf heads) (p - 1) ≡ laneBy (keyOf heads) n
     pub size : length m′ ≡ length m
     pub done : (j : ℕ) → p ≤ j → j < length names / 2 → j < length m → Turned m′ j
     pub kept : (j : ℕ) → j < p → getD m′ j 0 ≡ getD m j 0
 
   -- a variable of another lane
-  apart : (j : ℕ) → (laneOf s names j ≡ print 0 n % 1024 → ⊥) → Turned m j
-  apart j d = ap (λ (b : Bool). cond b 1 (getD m j 0)) (sym (lane-apart 1024 n (varAt s names j) (λ q. d (sym q))))
+  apart : (key j : ℕ) → (laneOf s names key j ≡ laneBy key n → ⊥) → Turned m j
+  apart key j d = ap (λ (b : Bool). cond b 1 (getD m j 0)) (sym (lane-apart (laneBy key) n (varAt s names j) (λ q. d (sym q))))
 
   module _ {heads links : List ℕ} (w : Lanes s names (length names / 2) heads links) where
-    pub touching-start : {h : ℕ} → h ≡ print 0 n % 1024 → Touching (getD heads h 0) m
+    pub touching-start : {h : ℕ} → h ≡ laneBy (keyOf heads) n → Touching heads (getD heads h 0) m
     touching-start {h} e =
-        let l : h < 1024 = omega arith in
+        let l : h < 1024 = omega (arith, lane-small (keyOf heads) n) in
         record {
           low = w .woven .head-low h l;
           on = λ x. w .woven .head-on h l x ∙ e;
           size = refl;
-          done = λ j a b c. apart j (λ q. w .woven .head-last h j l b a (q ∙ sym e));
+          done = λ j a b c. apart (keyOf heads) j (λ q. w .woven .head-last h j l b a (q ∙ sym e));
           kept = λ j a. refl;
         }
 
-    module _ {p : ℕ} {m′ : List ℕ} (g : Touching p m′) (h : 0 < p) where
+    module _ {p : ℕ} {m′ : List ℕ} (g : Touching heads p m′) (h : 0 < p) where
       before : p - 1 < length names / 2
       before = let z = g .low in omega arith
 
@@ -178,9 +178,9 @@ module _ (s names : List ℕ) (n : Name) (m : List ℕ) where
 
       -- between two variables of the lane there is none of the name
       between : (j : ℕ) → getD links (p - 1) 0 ≤ j → j < p - 1 → Turned m′ j
-      between j a l = g .kept j (omega arith) ∙ apart j (λ q. w .woven .link-last (p - 1) j before l a (q ∙ sym (g .on h)))
+      between j a l = g .kept j (omega arith) ∙ apart (keyOf heads) j (λ q. w .woven .link-last (p - 1) j before l a (q ∙ sym (g .on h)))
 
-      pub touching-more : {m″ : List ℕ} → VarTouched s (getD names (2 * (p - 1)) 0) n (p - 1) m′ m″ → Touching (getD links (p - 1) 0) m″
+      pub touching-more : {m″ : List ℕ} → VarTouched s (getD names (2 * (p - 1)) 0) n (p - 1) m′ m″ → Touching heads (getD links (p - 1) 0) m″
       touching-more {m″} v = record {
         low = let y = g .low in let z = touching-less in omega arith;
         on = λ x. w .woven .link-on (p - 1) before x ∙ g .on h;
@@ -199,7 +199,7 @@ module _ (s names : List ℕ) (n : Name) (m : List ℕ) where
           passed j a c (inl q) = rw q (here (omega arith))
           passed j a c (inr l) = v .other j (λ q. omega arith) ∙ between j a l
 
-  pub touching-all : {p : ℕ} {m′ : List ℕ} → Touching p m′ → p ≤ 0 → Touched s names m (n ∷ []) m′
+  pub touching-all : {heads : List ℕ} {p : ℕ} {m′ : List ℕ} → Touching heads p m′ → p ≤ 0 → Touched s names m (n ∷ []) m′
   unfolding member pick
   touching-all g h = record {
     size = g .size;

@@ -48,7 +48,7 @@ pub(crate) fn note_repeats<'a>(
     ensures { λ r. ⌜ NotesRepeats (now (doc .entry)) owner (now (out .entry)) skip n r (now (out .exit)) (now (table .entry)) ⌝ }
     ensures { λ r. ⌜ r ≤ n + 510 ⌝ }
 {
-    let mut heads = [0u16; 1024];
+    let mut heads = [0u16; 1025];
     let mut links = [0u16; 510];
     let many = table.len() / 2;
     let mut r = n;

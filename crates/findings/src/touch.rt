@@ -55,7 +55,7 @@ pub(crate) fn touch<'a>(
     requires { ⌜ Lanes (now doc) (now names) (length (now names) / 2) (now heads) (now links) ⌝ }
     ensures { λ _. ⌜ Touched (now (doc .entry)) (now (names .entry)) (now (marks .entry)) (now (name .entry) ∷ []) (now (marks .exit)) ⌝ }
 {
-    let mut p = heads[lane_of(name)];
+    let mut p = heads[lane_of(name, heads[1024])];
     while 0 < p {
         let i = (p - 1) as usize;
         let key = names[2 * i];

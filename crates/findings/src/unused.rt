@@ -55,7 +55,7 @@ fn touch_vars<'a>(
     requires { ⌜ length (now names) ≤ 510 ⌝ }
     ensures { λ _. ⌜ TouchesAll (now (doc .entry)) (now (rows .entry)) (now (names .entry)) (now (marks .entry)) (now (marks .exit)) (now (places .entry)) count ⌝ }
 {
-    let mut heads = [0u16; 1024];
+    let mut heads = [0u16; 1025];
     let mut links = [0u16; 255];
     add_all(doc, names, &mut heads, &mut links);
     touch_all(doc, places, rows, count, names, &heads, &links, marks);

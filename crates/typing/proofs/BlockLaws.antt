@@ -5,12 +5,10 @@ use mathlib.Core.Bool.{Bool, true, false}
 use mathlib.Core.List.{List, [], _∷_}
 use mathlib.Core.Option.{Option, none, some}
 use native.Mathlib.Omega.{arith}
-use native.Mathlib.Nat.{le-of-lt, lt-of-le-of-lt, mul-le-mul-left, mul-lt-mul-of-pos-right}
 use native.Mathlib.Decide.{ℕ-discrete}
 use lib.ListN.{length, getD, set, take, length-set}
 use lib.Seq.{sets, length-sets, getD-take, getD-set-same, getD-set-other, take-set-le}
 use lib.Dec.{eqb, ltb}
-use lib.Pow.{pow-pos}
 use borrow.Author.Tests.{eq-eqb, ne-eqb, lt-ltb, le-ltb, ltb-false}
 use Rattle.reading.specs.Read.{Read, ok, refused, pick}
 use Rattle.reading.specs.Limits.{maxList}
@@ -21,26 +19,28 @@ use Rattle.reading.proofs.Rules.{by}
 use Rattle.typing.specs.Names.{eqName}
 use Rattle.typing.specs.Causes.{firstOf}
 use Rattle.typing.specs.Table.{pairsOf, pairsAt, Filled, findFirst, found}
-use Rattle.typing.specs.Lanes.{print, Woven}
-use Rattle.typing.specs.Blocks.{nameIn, underIn, headIn, linkIn, keyIn, laneBy, laneIn, BlockWoven, alongLane, blockFind, findBlocks, findIn, Keeps, Weaves, Clears}
+use Rattle.typing.specs.Lanes.{printBy, print, factor, spread}
+use Rattle.typing.specs.Blocks.{nameIn, underIn, headIn, linkIn, keyIn, blockLane, laneIn, BlockWoven, alongLane, blockFind, findBlocks, findIn, Keeps, Weaves, Clears}
 use Rattle.typing.specs.declared.table.Found.{Found}
 use Rattle.typing.specs.declared.table.Found.the-variants.{At, Nothing}
 use Rattle.typing.proofs.TableLaws.{pairs-length, first-none, first-hit, first-miss}
 use Rattle.typing.proofs.LaneLaws.{woven-none, woven-kept, woven-more, find-past}
 
--- a lane's number
-pub product-fits : {a b : ℕ} → a < 2 ^ 32 → b < 2 ^ 32 → a * b < 2 ^ 64
-product-fits {a} h l = lt-of-le-of-lt (mul-le-mul-left a (le-of-lt l)) (mul-lt-mul-of-pos-right h (pow-pos 32))
+-- the lane of a name
+pub lane-small : (key : ℕ) (n : Name) → blockLane key n < 63
+unfolding blockLane
+lane-small key n = omega arith
 
-pub lane-small : (key p : ℕ) → laneBy key p < 63
-unfolding laneBy
-lane-small key p = omega arith
+pub lane-is : (n : Name) (key : ℕ) {f p lane : ℕ} → f ≡ factor key → p ≡ printBy f 0 n → lane ≡ spread p / 2 ^ 16 % 63 → lane ≡ blockLane key n
+unfolding blockLane
+lane-is n key e q r = rw (r, q, e)
 
-pub lane-is : (key p n : ℕ) → n ≡ p * (key % 2 ^ 32) → n % 2 ^ 32 / 2 ^ 16 % 63 ≡ laneBy key p
-unfolding laneBy
-lane-is key p n e = ap (λ (m : ℕ). m % 2 ^ 32 / 2 ^ 16 % 63) e
+-- the same by the print, which is that of key 0
+pub lane-first : (n : Name) {key p lane : ℕ} → key ≡ 0 → p ≡ print 0 n → lane ≡ spread p / 2 ^ 16 % 63 → lane ≡ blockLane key n
+unfolding factor
+lane-first n {key} e q r = lane-is n key (omega arith) q r
 
--- o stands under a name along a lane from p on, in f steps at most
+-- x stands under a name along a lane from p on, in f steps at most
 module _ (s : List ℕ) (n : Name) (T : List ℕ) (o f p : ℕ) {x : Option ℕ} (r : alongLane f s n T o p ≡ x) where
   pub lane-over : f ≤ 0 → Nothing ≡ found x
   unfolding alongLane found
@@ -73,12 +73,9 @@ module _ (s : List ℕ) (n : Name) (T : List ℕ) (o f p : ℕ) {x : Option ℕ}
         unfolding pick
         lane-miss q = rw (lane-pair, q)
 
-pub lane-start : (s : List ℕ) (n : Name) (T : List ℕ) (o : ℕ) {h : ℕ} → h ≡ laneBy (keyIn T o) (print 0 n) → alongLane 255 s n T o (headIn T o h) ≡ blockFind s n T o
+pub lane-start : (s : List ℕ) (n : Name) (T : List ℕ) (o : ℕ) {h : ℕ} → h ≡ blockLane (keyIn T o) n → alongLane 255 s n T o (headIn T o h) ≡ blockFind s n T o
 unfolding blockFind
 lane-start s n T o e = ap (λ (h : ℕ). alongLane 255 s n T o (headIn T o h)) e
-
-pub name-lane : (n : Name) (key p : ℕ) {lane : ℕ} → p ≡ print 0 n → lane ≡ laneBy key p → lane ≡ laneBy key (print 0 n)
-name-lane n key p e q = q ∙ ap (laneBy key) e
 
 -- what stands under a name in the first b blocks
 module _ (s : List ℕ) (n : Name) (T : List ℕ) (b : ℕ) {x : Option ℕ} (r : findBlocks b s n T ≡ x) where
@@ -148,7 +145,7 @@ module _ (s T : List ℕ) (o i : ℕ) (l : o + 829 ≤ length T) (m : i < 255) (
   c = laneIn s T o i
 
   c-small : c < 63
-  c-small = lane-small (keyIn T o) (print 0 (textAt s (nameIn T o i)))
+  c-small = lane-small (keyIn T o) (textAt s (nameIn T o i))
 
   abbrev linked : List ℕ
   linked = set T (o + 574 + i) (headIn T o c)
@@ -192,13 +189,13 @@ module _ (s T : List ℕ) (o i : ℕ) (l : o + 829 ≤ length T) (m : i < 255) (
         (λ j a. name-same j (omega arith)) (λ h a. refl) (λ j a. refl);
   }
 
-  pub weaves-more : {name : Name} {p lane : ℕ} {T₁ T₂ : List ℕ} → name ≡ textAt s (nameIn T o i) → p ≡ print 0 name → lane ≡ laneBy (keyIn T o) p → T₁ ≡ set T (o + 574 + i) (headIn T o lane) → T₂ ≡ set T₁ (o + 510 + lane) (i + 1) → Weaves s T o (i + 1) T₂
-  weaves-more t q e a b = rw (b, a, e, q, t) weaves-with
+  pub weaves-more : {name : Name} {lane : ℕ} {T₁ T₂ : List ℕ} → name ≡ textAt s (nameIn T o i) → lane ≡ blockLane (keyIn T o) name → T₁ ≡ set T (o + 574 + i) (headIn T o lane) → T₂ ≡ set T₁ (o + 510 + lane) (i + 1) → Weaves s T o (i + 1) T₂
+  weaves-more t e a b = rw (b, a, e, t) weaves-with
 
 -- a walk along a name's lane finds what the pairs have under the name
 module _ (s pairs T : List ℕ) (o k : ℕ) (n : Name) (few : k ≤ 255) (same : (j : ℕ) → j < 2 * k → getD T (o + j) 0 ≡ getD pairs j 0) (w : BlockWoven s T o k) where
   abbrev lane : Name → ℕ
-  lane x = laneBy (keyIn T o) (print 0 x)
+  lane x = blockLane (keyIn T o) x
 
   lane-same : (j : ℕ) → j < k → laneIn s T o j ≡ lane (textAt s (getD pairs (2 * j) 0))
   lane-same j h = ap (λ (a : ℕ). lane (textAt s a)) (same (2 * j) (omega arith))
@@ -222,7 +219,7 @@ module _ (s pairs T : List ℕ) (o k : ℕ) (n : Name) (few : k ≤ 255) (same :
   pub block-finds : blockFind s n T o ≡ findFirst s n pairs k
   unfolding blockFind
   block-finds =
-      let h = lane-small (keyIn T o) (print 0 n) in
+      let h = lane-small (keyIn T o) n in
       let l = w .head-low (lane n) h in
       along 255 (headIn T o (lane n)) (omega arith) l (w .head-on (lane n) h)
       ∙ find-past lane s pairs n (headIn T o (lane n)) k l (λ j a b q. w .head-last (lane n) j h b a (lane-same j b ∙ q))
@@ -286,8 +283,8 @@ module _ (s : List ℕ) (n : Name) (T T′ : List ℕ) (o : ℕ) (g : (j : ℕ) 
   pub block-kept : blockFind s n T′ o ≡ blockFind s n T o
   unfolding blockFind
   block-kept =
-      let h = lane-small (keyIn T o) (print 0 n) in
-      rw (g (o + 573) (omega arith), g (o + 510 + laneBy (keyIn T o) (print 0 n)) (omega arith)) (along-kept 255 (headIn T o (laneBy (keyIn T o) (print 0 n))))
+      let h = lane-small (keyIn T o) n in
+      rw (g (o + 573) (omega arith), g (o + 510 + blockLane (keyIn T o) n) (omega arith)) (along-kept 255 (headIn T o (blockLane (keyIn T o) n)))
 
 pub keeps-taken : (s pairs T : List ℕ) (o m : ℕ) → o + 829 ≤ m → Keeps s pairs T o → Keeps s pairs (take m T) o
 keeps-taken s pairs T o m h k = record { finds = λ n. block-kept s n T (take m T) o (λ j a. getD-take m T j 0 (omega arith)) ∙ k .finds n }

@@ -1,11 +1,12 @@
 -- Lanes: each pair is put before those of its lane, and a walk along a name's lane passes no pair of the name.
-use Prim.Native.Nat.{ℕ, zero, suc, _+_, _-_, _*_, _%_, _^_, _<_, _≤_}
-use mathlib.Core.Path.{_≡_, refl, sym, ap, _∙_}
+use Prim.Native.Nat.{ℕ, zero, suc, _+_, _-_, _*_, _/_, _%_, _^_, _<_, _≤_}
+use mathlib.Core.Path.{_≡_, refl, sym, ap, subst, _∙_}
 use mathlib.Core.Logic.{_≢_}
 use mathlib.Core.Bool.{Bool, false}
 use mathlib.Core.List.{List}
 use mathlib.Core.Option.{some}
 use native.Mathlib.Omega.{arith}
+use native.Mathlib.Nat.{mul-le-mul}
 use native.Mathlib.Numerals.{add-one}
 use native.Mathlib.Decide.{ℕ-discrete}
 use lib.Dec.{ltb}
@@ -18,19 +19,40 @@ use Rattle.reading.specs.Skip.{textAt}
 use Rattle.reading.proofs.Rules.{by}
 use Rattle.typing.specs.Names.{eqName}
 use Rattle.typing.specs.Table.{findFirst}
-use Rattle.typing.specs.Lanes.{print, laneOf, Woven, Lanes, Laned}
+use Rattle.typing.specs.Lanes.{printBy, factor, spread, laneBy, laneOf, Woven, keyOf, Lanes, Cleared, Laned}
 use Rattle.typing.proofs.NameLaws.{eqName-eq}
 use Rattle.typing.proofs.TableLaws.{find-miss, find-kept}
 
+-- the product of two numbers of 32 bits leaves room for a byte
+module _ {a b : ℕ} (h : a < 2 ^ 32) (l : b < 2 ^ 32) where
+  product-low : a * b ≤ 4294967295 * 4294967295
+  product-low = mul-le-mul {n₂ = 4294967295} {m₂ = 4294967295} (omega arith) (omega arith)
+
+  pub product-fits : a * b < 2 ^ 64
+  product-fits = let z = product-low in omega arith
+
+  pub product-more : {c : ℕ} → c < 2 ^ 8 → a * b + c < 2 ^ 64
+  product-more m = let z = product-low in omega arith
+
 -- one byte more
-module _ (a : List ℕ) (h i p : ℕ) (e : print p (drop i a) ≡ print h a) where
-  pub print-more : (p′ : ℕ) → i < length a → p′ ≡ (p * 16777619 + getD a i 0) % 2 ^ 32 → print p′ (drop (i + 1) a) ≡ print h a
-  unfolding print
+module _ (a : List ℕ) (f h i p : ℕ) (e : printBy f p (drop i a) ≡ printBy f h a) where
+  pub print-more : (p′ : ℕ) → i < length a → p′ ≡ (p * f + getD a i 0) % 2 ^ 32 → printBy f p′ (drop (i + 1) a) ≡ printBy f h a
+  unfolding printBy
   print-more p′ l q = rw q (rw (drop-cons a i 0 l, ← add-one) at e)
 
-  pub print-done : length a ≤ i → p ≡ print h a
-  unfolding print
+  pub print-done : length a ≤ i → p ≡ printBy f h a
+  unfolding printBy
   print-done l = rw (drop-of-length-le a l) at e
+
+-- a lane's number
+module _ (key : ℕ) (n : Name) where
+  pub lane-small : laneBy key n < 1024
+  unfolding laneBy spread
+  lane-small = omega arith
+
+  pub lane-is : {f p q : ℕ} → f ≡ factor key → p ≡ printBy f 0 n → q ≡ spread p → q / 2 ^ 22 ≡ laneBy key n
+  unfolding laneBy
+  lane-is e g h = rw (h, g, e)
 
 -- before the first pair, all lanes are empty
 pub woven-none : {c : ℕ} {lane head link : ℕ → ℕ} → ((h : ℕ) → h < c → head h ≡ 0) → Woven c lane 0 head link
@@ -109,13 +131,35 @@ module _ {c : ℕ} {lane : ℕ → ℕ} {k : ℕ} {head link : ℕ → ℕ} (w :
       link-last-at i j m n (no d) y z = w .link-last i j (older m d) n (rw (link-old i (older m d)) at y) z
 
 -- the same by two lists
-pub no-lanes : (s table links : List ℕ) → Lanes s table 0 (replicate 1024 0) links
-no-lanes s table links = record {
-  heads-size = length-replicate {A = ℕ} 1024 0;
-  table-room = omega arith;
-  links-room = omega arith;
-  woven = woven-none (λ h m. getD-replicate {A = ℕ} 1024 h 0 0 m);
-}
+pub cleared-lanes : (s table links : List ℕ) {heads : List ℕ} → Cleared heads → Lanes s table 0 heads links
+cleared-lanes s table links c = record { heads-size = c .size; table-room = omega arith; links-room = omega arith; woven = woven-none (c .empty) }
+
+pub no-lanes : (s table links : List ℕ) → Lanes s table 0 (replicate 1025 0) links
+no-lanes s table links = cleared-lanes s table links (record {
+  size = length-replicate {A = ℕ} 1025 0;
+  empty = λ h m. getD-replicate {A = ℕ} 1025 h 0 0 (omega arith);
+})
+
+-- lane by lane: those before h are empty
+abbrev pub Empty : List ℕ → ℕ → Type 0
+Empty heads h = (j : ℕ) → j < h → getD heads j 0 ≡ 0
+
+pub empty-start : (heads : List ℕ) → Empty heads 0
+empty-start heads j l = absurd (omega arith)
+
+module _ (heads : List ℕ) (h : ℕ) (size : length heads ≡ 1025) (e : Empty heads h) where
+  pub empty-more : h < 1024 → Empty (set heads h 0) (h + 1)
+  empty-more m j l = at (ℕ-discrete j h)
+    where
+      at : Dec (j ≡ h) → getD (set heads h 0) j 0 ≡ 0
+      at (yes q) = rw q (getD-set-same heads h 0 0 (omega arith))
+      at (no d) = getD-set-other heads h j 0 0 d ∙ e j (omega arith)
+
+  pub empty-all : (key : ℕ) → 1024 ≤ h → Cleared (set heads 1024 key)
+  empty-all key m = record {
+    size = length-set heads 1024 key ∙ size;
+    empty = λ j l. getD-set-other heads 1024 j key 0 (λ (q : j ≡ 1024). omega arith) ∙ e j (omega arith);
+  }
 
 module _ {s table table′ : List ℕ} {k : ℕ} {heads links : List ℕ} where
   pub lanes-kept : Lanes s table k heads links → length table ≡ length table′ → ((j : ℕ) → j < k → getD table′ (2 * j) 0 ≡ getD table (2 * j) 0) → Lanes s table′ k heads links
@@ -123,38 +167,44 @@ module _ {s table table′ : List ℕ} {k : ℕ} {heads links : List ℕ} where
     heads-size = w .heads-size;
     table-room = let z = w .table-room in omega arith;
     links-room = w .links-room;
-    woven = woven-kept (w .woven) (λ j m. ap (λ (a : ℕ). print 0 (textAt s a) % 1024) (g j m)) (λ h m. refl) (λ i m. refl);
+    woven = woven-kept (w .woven) (λ j m. ap (λ (a : ℕ). laneBy (keyOf heads) (textAt s a)) (g j m)) (λ h m. refl) (λ i m. refl);
   }
 
 module _ (s table : List ℕ) {k : ℕ} {heads links : List ℕ} (w : Lanes s table k heads links) where
   pub lane-room : {h : ℕ} → h < 1024 → h < length heads
   lane-room m = let z = w .heads-size in omega arith
 
+  -- told with another number of pairs
+  pub lanes-all : {m n : ℕ} → k ≤ m → m ≤ k → m ≡ n → Lanes s table n heads links
+  lanes-all {n = n} a b e = let q : k ≡ n = omega arith in subst (λ (j : ℕ). Lanes s table j heads links) q w
+
+  -- pair k is put before those of its lane
   module _ (room : 2 * k + 2 ≤ length table) (more : k < length links) where
-    lanes-with : Lanes s table (k + 1) (set heads (laneOf s table k) (k + 1)) (set links k (getD heads (laneOf s table k) 0))
+    lanes-with : Lanes s table (k + 1) (set heads (laneOf s table (keyOf heads) k) (k + 1)) (set links k (getD heads (laneOf s table (keyOf heads) k) 0))
     lanes-with = record {
       heads-size = length-set heads c (k + 1) ∙ w .heads-size;
       table-room = omega arith;
       links-room = let z = length-set links k (getD heads c 0) in omega arith;
       woven =
-          woven-more (w .woven) c-small
+          rw (getD-set-other heads c 1024 (k + 1) 0 (λ (e : 1024 ≡ c). omega (arith, c-small)))
+          (woven-more (w .woven) c-small
           (getD-set-same heads c (k + 1) 0 (lane-room c-small))
           (λ h m d. getD-set-other heads c h (k + 1) 0 d)
           (getD-set-same links k (getD heads c 0) 0 more)
-          (λ i m. getD-set-other links k i (getD heads c 0) 0 (λ (e : i ≡ k). omega arith));
+          (λ i m. getD-set-other links k i (getD heads c 0) 0 (λ (e : i ≡ k). omega arith)));
     }
       where
         c : ℕ
-        c = laneOf s table k
+        c = laneOf s table (keyOf heads) k
 
         c-small : c < 1024
-        c-small = omega arith
+        c-small = lane-small (keyOf heads) (textAt s (getD table (2 * k) 0))
 
-    pub lanes-more : {key : Name} {h : ℕ} → key ≡ textAt s (getD table (2 * k) 0) → h ≡ print 0 key % 1024 → Lanes s table (k + 1) (set heads h (k + 1)) (set links k (getD heads h 0))
+    pub lanes-more : {name : Name} {h : ℕ} → name ≡ textAt s (getD table (2 * k) 0) → h ≡ laneBy (keyOf heads) name → Lanes s table (k + 1) (set heads h (k + 1)) (set links k (getD heads h 0))
     lanes-more t e = rw (e, t) lanes-with
 
 -- a table before its first pair
-pub laned-start : (n : ℕ) (s : List ℕ) {table heads links : List ℕ} → table ≡ replicate (2 * n) 0 → heads ≡ replicate 1024 0 → links ≡ replicate n 0 → Laned n s table 0 heads links
+pub laned-start : (n : ℕ) (s : List ℕ) {table heads links : List ℕ} → table ≡ replicate (2 * n) 0 → heads ≡ replicate 1025 0 → links ≡ replicate n 0 → Laned n s table 0 heads links
 laned-start n s {table} {heads} {links} a b c = record {
   size = ap length a ∙ length-replicate {A = ℕ} (2 * n) 0;
   links-size = ap length c ∙ length-replicate {A = ℕ} n 0;
@@ -192,11 +242,8 @@ module _ {n : ℕ} {s table : List ℕ} {k : ℕ} {heads links : List ℕ} (r : 
   pair-found w = rw (add-one k, pair-name, pair-value, find-kept s w table (put table k a v) k (words-kept table k a v))
 
 -- names of other lanes differ
-apart-by : (lane : Name → ℕ) (x n : Name) → (lane x ≡ lane n → ⊥) → eqName x n ≡ false
-apart-by lane x n h = by (eqName x n) (λ q. absurd (h (ap lane (eqName-eq x n q)))) (λ q. q)
-
-pub lane-apart : (c : ℕ) (x n : Name) → (print 0 x % c ≡ print 0 n % c → ⊥) → eqName x n ≡ false
-lane-apart c = apart-by (λ x. print 0 x % c)
+pub lane-apart : (lane : Name → ℕ) (x n : Name) → (lane x ≡ lane n → ⊥) → eqName x n ≡ false
+lane-apart lane x n h = by (eqName x n) (λ q. absurd (h (ap lane (eqName-eq x n q)))) (λ q. q)
 
 module _ (lane : Name → ℕ) (s table : List ℕ) (n : Name) (p : ℕ) where
   pub find-past : (k : ℕ) → p ≤ k → ((j : ℕ) → p ≤ j → j < k → lane (textAt s (getD table (2 * j) 0)) ≡ lane n → ⊥) → findFirst s n table p ≡ findFirst s n table k
@@ -205,36 +252,36 @@ module _ (lane : Name → ℕ) (s table : List ℕ) (n : Name) (p : ℕ) where
   find-past (suc k) h f =
       by (ltb k p) (λ q. let l = ltb-true k p q in let z : p ≡ suc k = omega arith in ap (findFirst s n table) z) (λ q.
       let l = ltb-false k p q in
-      rw (apart-by lane (textAt s (getD table (2 * k) 0)) n (f k l (omega arith))) (find-past k l (λ j a b. f j a (omega arith))))
+      rw (lane-apart lane (textAt s (getD table (2 * k) 0)) n (f k l (omega arith))) (find-past k l (λ j a b. f j a (omega arith))))
 
 -- the walk for a name has come to pair p - 1, which is on its lane, and no later one of the first k has the name
-pub record Walking (s table : List ℕ) (k : ℕ) (links : List ℕ) (n : Name) (p : ℕ) : Type 0 where
+pub record Walking (s table : List ℕ) (k : ℕ) (heads links : List ℕ) (n : Name) (p : ℕ) : Type 0 where
   pub low : p ≤ k
   pub table-room : 2 * p ≤ length table
   pub links-room : p ≤ length links
-  pub on : 0 < p → laneOf s table (p - 1) ≡ print 0 n % 1024
+  pub on : 0 < p → laneOf s table (keyOf heads) (p - 1) ≡ laneBy (keyOf heads) n
   pub rest : findFirst s n table p ≡ findFirst s n table k
 
 module _ (s table : List ℕ) {k : ℕ} {heads links : List ℕ} (w : Lanes s table k heads links) (n : Name) where
-  walk-at : {p m : ℕ} → p ≤ m → m ≤ k → (0 < p → laneOf s table (p - 1) ≡ print 0 n % 1024) → ((j : ℕ) → p ≤ j → j < m → laneOf s table j ≡ print 0 n % 1024 → ⊥) → findFirst s n table m ≡ findFirst s n table k → Walking s table k links n p
+  walk-at : {p m : ℕ} → p ≤ m → m ≤ k → (0 < p → laneOf s table (keyOf heads) (p - 1) ≡ laneBy (keyOf heads) n) → ((j : ℕ) → p ≤ j → j < m → laneOf s table (keyOf heads) j ≡ laneBy (keyOf heads) n → ⊥) → findFirst s n table m ≡ findFirst s n table k → Walking s table k heads links n p
   walk-at {p} {m} l h o f r =
       let y = w .table-room in
       let z = w .links-room in
-      record { low = omega arith; table-room = omega arith; links-room = omega arith; on = o; rest = find-past (λ x. print 0 x % 1024) s table n p m l f ∙ r }
+      record { low = omega arith; table-room = omega arith; links-room = omega arith; on = o; rest = find-past (laneBy (keyOf heads)) s table n p m l f ∙ r }
 
-  pub walk-start : {h : ℕ} → h ≡ print 0 n % 1024 → Walking s table k links n (getD heads h 0)
+  pub walk-start : {h : ℕ} → h ≡ laneBy (keyOf heads) n → Walking s table k heads links n (getD heads h 0)
   walk-start {h} e =
-      let m : h < 1024 = omega arith in
+      let m : h < 1024 = omega (arith, lane-small (keyOf heads) n) in
       walk-at (w .woven .head-low h m) (omega arith) (λ x. w .woven .head-on h m x ∙ e) (λ j a b q. w .woven .head-last h j m b a (q ∙ sym e)) refl
 
-  module _ {p : ℕ} (g : Walking s table k links n p) (h : 0 < p) where
+  module _ {p : ℕ} (g : Walking s table k heads links n p) (h : 0 < p) where
     before : p - 1 < k
     before = let y = g .low in omega arith
 
     pub walk-less : getD links (p - 1) 0 < p
     walk-less = let z = w .woven .link-low (p - 1) before in omega arith
 
-    pub walk-more : {b : Bool} {key : Name} → b ≡ eqName key n → key ≡ textAt s (getD table (2 * (p - 1)) 0) → b ≡ false → Walking s table k links n (getD links (p - 1) 0)
+    pub walk-more : {b : Bool} {key : Name} → b ≡ eqName key n → key ≡ textAt s (getD table (2 * (p - 1)) 0) → b ≡ false → Walking s table k heads links n (getD links (p - 1) 0)
     walk-more e t q =
         let m = before in
         let o = g .on h in

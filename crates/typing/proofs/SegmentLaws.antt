@@ -21,7 +21,7 @@ use Rattle.reading.proofs.Rules.{by}
 use Rattle.typing.specs.Names.{eqName}
 use Rattle.typing.specs.Env.{given}
 use Rattle.typing.specs.Table.{afterItem, pairsAt, Filled, findFirst, memberFrom, memberOf, memberAt, variantFound}
-use Rattle.typing.specs.Lanes.{print}
+use Rattle.typing.specs.Lanes.{printBy, print}
 use Rattle.typing.specs.Segments.{wordIs, among, segmentHas, variantIn, variantHeld, Under, Segmented, IndexedOne, Indexed}
 use Rattle.typing.specs.Blocks.{blockFind, KeepsEnums, Weaves}
 use Rattle.typing.specs.Entries.{opened}
@@ -88,7 +88,7 @@ module _ (s T : List ℕ) (n : Name) (w : ℕ) where
 
 -- a word made of a name's place and its print is the name's: equal names have equal prints
 print-small : (bs : List ℕ) (h : ℕ) → h < 2 ^ 32 → print h bs < 2 ^ 32
-unfolding print
+unfolding printBy
 print-small [] h l = l
 print-small (b ∷ bs) h l = print-small bs ((h * 16777619 + b) % 2 ^ 32) (omega arith)
 

@@ -13,7 +13,7 @@ use Rattle.reading.specs.Skip.{textAt}
 use Rattle.typing.specs.Names.{eqName}
 use Rattle.typing.specs.Causes.{firstOf}
 use Rattle.typing.specs.Env.{Env, given}
-use Rattle.typing.specs.Lanes.{print, Woven}
+use Rattle.typing.specs.Lanes.{printBy, factor, spread, Woven}
 use Rattle.typing.specs.Table.{lastIn, typeFound, variantFound}
 use Rattle.typing.specs.Segments.{variantHeld}
 
@@ -33,12 +33,12 @@ linkIn T o i = getD T (o + 574 + i) 0
 abbrev pub keyIn : List ℕ → ℕ → ℕ
 keyIn T o = getD T (o + 573) 0
 
--- the lane of a print by a key
-unfoldable pub laneBy : ℕ → ℕ → ℕ
-laneBy key p = p * (key % 2 ^ 32) % 2 ^ 32 / 2 ^ 16 % 63
+-- the lane of a name by a key, one of 63
+unfoldable pub blockLane : ℕ → Name → ℕ
+blockLane key n = spread (printBy (factor key) 0 n) / 2 ^ 16 % 63
 
 abbrev pub laneIn : List ℕ → List ℕ → ℕ → ℕ → ℕ
-laneIn s T o i = laneBy (keyIn T o) (print 0 (textAt s (nameIn T o i)))
+laneIn s T o i = blockLane (keyIn T o) (textAt s (nameIn T o i))
 
 -- the first k pairs of the block are on their lanes
 abbrev pub BlockWoven : List ℕ → List ℕ → ℕ → ℕ → Type 0
@@ -54,7 +54,7 @@ alongLane (suc f) s n T o p =
 
 -- in the block from word o on
 unfoldable pub blockFind : List ℕ → Name → List ℕ → ℕ → Option ℕ
-blockFind s n T o = alongLane 255 s n T o (headIn T o (laneBy (keyIn T o) (print 0 n)))
+blockFind s n T o = alongLane 255 s n T o (headIn T o (blockLane (keyIn T o) n))
 
 -- in the first b blocks
 unfoldable pub findBlocks : ℕ → List ℕ → Name → List ℕ → Option ℕ

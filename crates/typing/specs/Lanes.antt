@@ -1,19 +1,35 @@
--- Lanes of a table's names, one for each remainder of a print: a head says where a lane starts, and links lead from a pair to an earlier
--- one, each by one more than its number; 0 ends a lane. No pair of a lane's remainder is left out.
-use Prim.Native.Nat.{ℕ, _+_, _-_, _*_, _%_, _^_, _<_, _≤_}
+-- Lanes of a table's names, by their prints and a key: a head says where a lane starts, and links lead from a pair to an earlier one, each by one
+-- more than its number; 0 ends a lane. No pair of a lane is left out.
+use Prim.Native.Nat.{ℕ, _+_, _-_, _*_, _/_, _%_, _^_, _<_, _≤_}
 use mathlib.Core.Path.{_≡_}
 use mathlib.Core.List.{List, [], _∷_}
 use lib.ListN.{length, getD}
+use Rattle.reading.specs.Text.{Name}
 use Rattle.reading.specs.Skip.{textAt}
 
--- a number made of bytes: equal bytes have equal prints
-unfoldable pub print : ℕ → List ℕ → ℕ
-print h [] = h
-print h (b ∷ bs) = print ((h * 16777619 + b) % 2 ^ 32) bs
+-- a number made of bytes by a factor: equal bytes have equal prints
+unfoldable pub printBy : ℕ → ℕ → List ℕ → ℕ
+printBy f h [] = h
+printBy f h (b ∷ bs) = printBy f ((h * f + b) % 2 ^ 32) bs
+
+abbrev pub print : ℕ → List ℕ → ℕ
+print h bs = printBy 16777619 h bs
+
+-- the factor of a key; that of key 0 makes the print
+unfoldable pub factor : ℕ → ℕ
+factor key = 16777619 + 50462 * (key % 2 ^ 16)
+
+-- every bit of a print counts in the upper ones
+unfoldable pub spread : ℕ → ℕ
+spread p = p * 2654435769 % 2 ^ 32
+
+-- the lane of a name by a key, one of 1024
+unfoldable pub laneBy : ℕ → Name → ℕ
+laneBy key n = spread (printBy (factor key) 0 n) / 2 ^ 22
 
 -- the lane of pair j
-abbrev pub laneOf : List ℕ → List ℕ → ℕ → ℕ
-laneOf s table j = print 0 (textAt s (getD table (2 * j) 0)) % 1024
+abbrev pub laneOf : List ℕ → List ℕ → ℕ → ℕ → ℕ
+laneOf s table key j = laneBy key (textAt s (getD table (2 * j) 0))
 
 -- the first k pairs are on their lanes, of which there are c: head and link say where each lane starts and how it goes on
 pub record Woven (c : ℕ) (lane : ℕ → ℕ) (k : ℕ) (head link : ℕ → ℕ) : Type 0 where
@@ -24,12 +40,20 @@ pub record Woven (c : ℕ) (lane : ℕ → ℕ) (k : ℕ) (head link : ℕ → �
   pub link-on : (i : ℕ) → i < k → 0 < link i → lane (link i - 1) ≡ lane i
   pub link-last : (i j : ℕ) → i < k → j < i → link i ≤ j → lane j ≡ lane i → ⊥
 
--- the same by two lists
+-- the same by two lists; the key stands behind the heads
+abbrev pub keyOf : List ℕ → ℕ
+keyOf heads = getD heads 1024 0
+
 pub record Lanes (s table : List ℕ) (k : ℕ) (heads links : List ℕ) : Type 0 where
-  pub heads-size : length heads ≡ 1024
+  pub heads-size : length heads ≡ 1025
   pub table-room : 2 * k ≤ length table
   pub links-room : k ≤ length links
-  pub woven : Woven 1024 (laneOf s table) k (λ h. getD heads h 0) (λ i. getD links i 0)
+  pub woven : Woven 1024 (laneOf s table (keyOf heads)) k (λ h. getD heads h 0) (λ i. getD links i 0)
+
+-- all lanes are empty
+pub record Cleared (heads : List ℕ) : Type 0 where
+  pub size : length heads ≡ 1025
+  pub empty : (h : ℕ) → h < 1024 → getD heads h 0 ≡ 0
 
 -- a table of n pairs, the first k of them on their lanes
 pub record Laned (n : ℕ) (s table : List ℕ) (k : ℕ) (heads links : List ℕ) : Type 0 where

@@ -2,24 +2,46 @@
 // lanes, a key, and 255 links.
 use crate::fill::fill_table;
 use crate::fill::store;
+use crate::lanes::factor;
+use crate::lanes::print_by;
 use crate::lanes::print_bytes;
+use crate::lanes::spread;
 use crate::names::same;
 use crate::table::Found;
 use reading::text_at;
 ghost use mathlib.Core.Path.{_≡_};
-ghost use Prim.Native.Nat.{_+_, _*_, _<_, _≤_};
+ghost use Prim.Native.Nat.{_+_, _*_, _/_, _%_, _^_, _<_, _≤_};
 ghost use lib.ListN.{length};
 ghost use Rattle.typing.specs.Table.{found, pairsAt};
-ghost use Rattle.typing.specs.Lanes.{print};
-ghost use Rattle.typing.specs.Blocks.{laneBy, keyIn, BlockWoven, blockFind, findIn, Keeps, Weaves, Clears};
+ghost use Rattle.typing.specs.Lanes.{print, spread};
+ghost use Rattle.typing.specs.Blocks.{blockLane, keyIn, BlockWoven, blockFind, findIn, Keeps, Weaves, Clears};
 
-// The lane of a print by a key. Names of one lane by a key are of many by another, if their prints differ.
-fn block_lane(print: u32, key: usize) -> usize
-    ensures { λ r. ⌜ r ≡ laneBy key print ⌝ }
+// The lane of a print.
+fn print_lane(p: u32) -> usize
+    ensures { λ r. ⌜ r ≡ spread p / 2 ^ 16 % 63 ⌝ }
     ensures { λ r. ⌜ r < 63 ⌝ }
 {
-    let n = (print as u64) * ((key % 4294967296) as u64);
-    (n % 4294967296 / 65536 % 63) as usize
+    (spread(p) / 65536 % 63) as usize
+}
+
+// The lane of a name by a key.
+fn block_lane(name: &[u8], key: usize) -> usize
+    ensures { λ r. ⌜ r ≡ blockLane key (now (name .entry)) ⌝ }
+    ensures { λ r. ⌜ r < 63 ⌝ }
+{
+    print_lane(print_by(name, 0, factor(key)))
+}
+
+// The same where the name's print is known, which is that of key 0.
+fn lane_in_block(name: &[u8], p: u32, key: usize) -> usize
+    requires { ⌜ p ≡ print 0 (now name) ⌝ }
+    ensures { λ r. ⌜ r ≡ blockLane key (now (name .entry)) ⌝ }
+    ensures { λ r. ⌜ r < 63 ⌝ }
+{
+    if key == 0 {
+        return print_lane(p);
+    }
+    block_lane(name, key)
 }
 
 // What stands under a name in the block from word o on, by the name's lane.
@@ -32,7 +54,7 @@ fn find_in_block<'a>(
 ) -> Found
     requires { ⌜ o + 829 ≤ length (now table) ⌝ }
     requires { ⌜ lane < 63 ⌝ }
-    requires { ⌜ lane ≡ laneBy (keyIn (now table) o) (print 0 (now name)) ⌝ }
+    requires { ⌜ lane ≡ blockLane (keyIn (now table) o) (now name) ⌝ }
     ensures { λ r. ⌜ r ≡ found (blockFind (now (doc .entry)) (now (name .entry)) (now (table .entry)) o) ⌝ }
 {
     let mut p = table[o + 510 + lane];
@@ -63,7 +85,7 @@ pub fn find<'a>(doc: &'a [u8], table: &'a [usize], name: &'a [u8]) -> Found
     while 0 < b {
         b -= 1;
         let o = 829 * b;
-        let lane = block_lane(p, table[o + 573]);
+        let lane = lane_in_block(name, p, table[o + 573]);
         let f = find_in_block(doc, table, o, lane, name);
         match f {
             Found::At(place) => {
@@ -95,8 +117,7 @@ fn weave_pair(doc: &[u8], table: &mut [usize], o: usize, i: usize)
     requires { ⌜ BlockWoven (now doc) (now table) o i ⌝ }
     ensures { λ _. ⌜ Weaves (now (doc .entry)) (now (table .entry)) o (i + 1) (now (table .exit)) ⌝ }
 {
-    let p = print_bytes(text_at(doc, table[o + 2 * i]), 0);
-    let h = o + 510 + block_lane(p, table[o + 573]);
+    let h = o + 510 + block_lane(text_at(doc, table[o + 2 * i]), table[o + 573]);
     let head = table[h];
     store(table, o + 574 + i, head);
     store(table, h, i + 1);
@@ -144,16 +165,14 @@ pub fn weave(doc: &[u8], table: &mut [usize], o: usize, n: usize)
     requires { ⌜ n ≤ 255 ⌝ }
     ensures { λ _. ⌜ Weaves (now (doc .entry)) (now (table .entry)) o n (now (table .exit)) ⌝ }
 {
-    let mut key: usize = 2654435769;
+    let mut key: usize = 0;
     weave_by(doc, table, o, n, key);
-    let mut left: usize = 7;
-    while 0 < left {
+    while key < 7 {
         if !crowded(table, o, n) {
             return;
         }
-        key = key * 16777619 % 4294967296;
+        key += 1;
         weave_by(doc, table, o, n, key);
-        left -= 1;
     }
 }
 

@@ -197,7 +197,7 @@ fn apart_by_lanes(doc: &[u8], at: usize, count: u8) -> u8
     ensures { λ r. ⌜ Apart (now (doc .entry)) at r ⌝ }
 {
     let mut names = [0usize; 510];
-    let mut heads = [0u16; 1024];
+    let mut heads = [0u16; 1025];
     let mut links = [0u16; 255];
     let mut m: usize = 0;
     let mut k = at;

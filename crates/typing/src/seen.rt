@@ -120,7 +120,7 @@ pub(crate) fn clash_in_one_pass(doc: &[u8], at: usize, depth: u64) -> Seen
     ensures { λ r. ⌜ OnePass depth (now (doc .entry)) at r ⌝ }
 {
     let mut table = [0usize; 8192];
-    let mut heads = [0u16; 1024];
+    let mut heads = [0u16; 1025];
     let mut links = [0u16; 4096];
     note_conjuncts(doc, at, depth, &mut table, 0, &mut heads, &mut links)
 }

@@ -5,7 +5,7 @@ use native.Mathlib.Omega.{arith}
 use borrow.Author.Needs.{needs}
 use lib.ListN.{length}
 use Rattle.typing.specs.Lanes.{Lanes}
-use Rattle.findings.proofs.LaneLaws.{lanes-all}
+use Rattle.typing.proofs.LaneLaws.{lanes-all}
 use Rattle.findings.proofs.lanes.add_all.Statement.{statement}
 use Rattle.findings.proofs.lanes.add_all.Tie as tie
 

@@ -9,7 +9,7 @@ use Rattle.findings.proofs.touch.touch.Statement.{statement}
 use Rattle.findings.proofs.touch.touch.Tie as tie
 
 abbrev Inv-loop : tie.InvT-loop
-Inv-loop doc names heads links name marks₀ p₀ marks p = (length marks ≡ length marks₀) × Touching doc names name marks₀ p marks
+Inv-loop doc names heads links name marks₀ p₀ marks p = (length marks ≡ length marks₀) × Touching doc names name marks₀ heads p marks
 
 abbrev μ-loop : tie.MeasureT-loop
 μ-loop doc names heads links name marks₀ p₀ marks p = p
@@ -20,6 +20,7 @@ touch-spec =
     (tie.spec
     Inv-loop
     μ-loop
+    (λ c. omega arith)
     (λ c κs. search needs)
     (λ c. omega arith)
     (λ c. search lane-room)

@@ -1,8 +1,6 @@
 -- A depth that is counted up is at most 11.
 use Prim.Native.Nat.{_-_, _≤_}
-use mathlib.Core.Path.{_≡_}
 use native.Mathlib.Omega.{arith}
-use lib.ListN.{length, length-set}
 use borrow.Author.Needs.{needs}
 use Rattle.typing.proofs.block.crowded.Statement.{statement}
 use Rattle.typing.proofs.block.crowded.Tie as tie

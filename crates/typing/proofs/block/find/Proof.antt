@@ -5,7 +5,7 @@ use native.Mathlib.Omega.{arith}
 use lib.ListN.{length}
 use borrow.Author.Needs.{needs}
 use Rattle.typing.specs.Blocks.{findBlocks, findIn}
-use Rattle.typing.proofs.BlockLaws.{name-lane, blocks-start, blocks-none, blocks-hit, blocks-miss}
+use Rattle.typing.proofs.BlockLaws.{blocks-start, blocks-none, blocks-hit, blocks-miss}
 use Rattle.typing.proofs.block.find.Statement.{statement}
 use Rattle.typing.proofs.block.find.Tie as tie
 
@@ -29,7 +29,7 @@ find-spec =
     (λ c. omega arith)
     (λ c. omega arith)
     (λ c κs. search needs)
-    (λ c κs. (omega arith, (search needs, search name-lane)))
+    (λ c κs. search needs)
     (λ c. search needs)
     (λ c. search blocks-hit)
     (λ c. search needs)

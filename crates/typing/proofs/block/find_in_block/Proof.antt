@@ -14,10 +14,7 @@ abbrev μ-loop : tie.MeasureT-loop
 μ-loop doc table o lane name p₀ left₀ p left = left
 
 returns-3 : tie.Need-returns-3 Inv-loop μ-loop
-returns-3 c = lane-hit _ _ _ _ _ _ (c .before .before .before .before .before .before .before .before .loop .inv) (c .before .before .before .before .before .before .before .loop-test .taken) (c .before .before .before .before .before .before .if1 .left) (c .before .before .before .before .before .if2 .left) (c .before .before .same .ensures) (c .before .before .before .text-at .ensures) (c .before .if3 .taken)
-
-loop-again : tie.Need-loop-again Inv-loop μ-loop
-loop-again c = lane-miss _ _ _ _ _ _ (c .before .before .before .before .before .before .before .before .loop .inv) (c .before .before .before .before .before .before .before .loop-test .taken) (c .before .before .before .before .before .before .if1 .left) (c .before .before .before .before .before .if2 .left) (c .before .before .same .ensures) (c .before .before .before .text-at .ensures) (c .before .if3 .left)
+returns-3 c = search (lane-hit _ _ _ _ _ _ (c .before .before .before .before .before .before .before .before .loop .inv))
 
 pub find-in-block-spec : {M : Type 1} → statement M
 find-in-block-spec =
@@ -51,5 +48,5 @@ find-in-block-spec =
     (λ c. omega arith)
     (λ c. omega arith)
     (λ c. omega arith)
-    loop-again
+    (λ c. search lane-miss)
     (λ c. search lane-over))

@@ -1,5 +1,5 @@
 -- Each key leaves the pairs on their lanes.
-use Prim.Native.Nat.{_+_, _^_, _<_, _≤_}
+use Prim.Native.Nat.{_+_, _-_, _≤_}
 use native.Mathlib.Omega.{arith}
 use borrow.Author.Needs.{needs}
 use lib.ListN.{length}
@@ -9,10 +9,10 @@ use Rattle.typing.proofs.block.weave.Statement.{statement}
 use Rattle.typing.proofs.block.weave.Tie as tie
 
 abbrev Inv-loop : tie.InvT-loop
-Inv-loop doc table₀ o n key₀ left₀ table key left = Weaves doc table₀ o n table × (key < 2 ^ 32) × (o + 829 ≤ length table)
+Inv-loop doc table₀ o n key₀ table key = Weaves doc table₀ o n table × (o + 829 ≤ length table)
 
 abbrev μ-loop : tie.MeasureT-loop
-μ-loop doc table₀ o n key₀ left₀ table key left = left
+μ-loop doc table₀ o n key₀ table key = 7 - key
 
 pub weave-spec : {M : Type 1} → statement M
 weave-spec =
@@ -21,14 +21,13 @@ weave-spec =
     Inv-loop
     μ-loop
     (λ c κs. search needs)
-    (λ c. (search weaves-still, omega arith, omega arith))
+    (λ c. (search weaves-still, omega arith))
     (λ c κs. search needs)
     (λ c. search needs)
     (λ c. search weaves-then)
     (λ c. omega arith)
     (λ c κs. search needs)
     (λ c. omega arith)
-    (λ c. omega arith)
-    (λ c. (search weaves-then, omega arith, omega arith))
+    (λ c. (search weaves-then, omega arith))
     (λ c. search needs)
     (λ c. search weaves-then))

@@ -7,7 +7,7 @@ use Rattle.typing.proofs.lanes.lane_find.Statement.{statement}
 use Rattle.typing.proofs.lanes.lane_find.Tie as tie
 
 abbrev Inv-loop : tie.InvT-loop
-Inv-loop doc table k heads links name p₀ p = Walking doc table k links name p
+Inv-loop doc table k heads links name p₀ p = Walking doc table k heads links name p
 
 abbrev μ-loop : tie.MeasureT-loop
 μ-loop doc table k heads links name p₀ p = p
@@ -18,6 +18,7 @@ lane-find-spec =
     (tie.spec
     Inv-loop
     μ-loop
+    (λ c. omega arith)
     (λ c κs. search needs)
     (λ c. omega arith)
     (λ c. search lane-room)

@@ -3,17 +3,18 @@ use native.Mathlib.Omega.{arith}
 use borrow.Author.Needs.{needs}
 use lib.ListN.{length-set}
 use Rattle.typing.proofs.LaneLaws.{lane-room, lanes-more}
-use Rattle.typing.proofs.lanes.lane_add.Statement.{statement}
-use Rattle.typing.proofs.lanes.lane_add.Tie as tie
+use Rattle.typing.proofs.lanes.lane_put.Statement.{statement}
+use Rattle.typing.proofs.lanes.lane_put.Tie as tie
 
-pub lane-add-spec : {M : Type 1} → statement M
-lane-add-spec =
+pub lane-put-spec : {M : Type 1} → statement M
+lane-put-spec =
     tie.close
     (tie.spec
     (λ c. omega arith)
     (λ c. omega arith)
     (λ c. omega arith)
     (λ c κs. search needs)
+    (λ c. omega arith)
     (λ c κs. search needs)
     (λ c. omega arith)
     (λ c. search lane-room)
