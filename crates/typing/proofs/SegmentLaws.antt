@@ -10,7 +10,7 @@ use native.Mathlib.Decide.{ℕ-discrete}
 use lib.ListN.{length, getD, set, take, length-set}
 use lib.Seq.{sets, length-sets, getD-set-same, getD-set-other, take-set-le}
 use lib.Dec.{eqb, ltb}
-use borrow.Author.Tests.{eq-eqb, ne-eqb, lt-ltb, le-ltb, le-leb, ltb-false}
+use borrow.Author.Tests.{eqb-true, eqb-false, eq-eqb, ne-eqb, lt-ltb, le-ltb, le-leb, ltb-false}
 use Rattle.reading.specs.Read.{pick, bind}
 use Rattle.reading.specs.Limits.{maxList}
 use Rattle.reading.specs.Head.{readHead}
@@ -22,7 +22,7 @@ use Rattle.typing.specs.Names.{eqName}
 use Rattle.typing.specs.Env.{given}
 use Rattle.typing.specs.Table.{afterItem, pairsAt, Filled, findFirst, memberFrom, memberOf, memberAt, variantFound}
 use Rattle.typing.specs.Lanes.{printBy, print}
-use Rattle.typing.specs.Segments.{wordIs, among, segmentHas, variantIn, variantHeld, Under, Segmented, IndexedOne, Indexed}
+use Rattle.typing.specs.Segments.{wordIs, among, NonePast, LastOfPrint, segmentHas, variantIn, variantHeld, Under, Segmented, IndexedOne, Indexed}
 use Rattle.typing.specs.Blocks.{blockFind, KeepsEnums, Weaves}
 use Rattle.typing.specs.Entries.{opened}
 use Rattle.typing.specs.declared.entries.Entries.{Entries}
@@ -30,33 +30,102 @@ use Rattle.typing.proofs.NameLaws.{eqName-eq}
 use Rattle.typing.proofs.TableLaws.{names-open, given-pick}
 use Rattle.typing.proofs.BlockLaws.{word-kept, block-finds, getD-sets}
 
--- the name is looked for among so many words
-module _ (s : List ℕ) (n : Name) (T : List ℕ) (q left : ℕ) {x : Bool} (r : among left s n T q ≡ x) where
-  pub among-none : left ≤ 0 → false ≡ x
-  unfolding among
-  among-none h = let z : left ≡ 0 = omega arith in sym (ap (λ (k : ℕ). among k s n T q) z) ∙ r
+-- the last word that has a print
+module _ (T : List ℕ) (q k p : ℕ) where
+  pub none-start : NonePast T q k p k
+  none-start = record { low = omega arith; past = λ j a b. absurd (omega arith) }
 
-  module _ (h : 0 < left) {p : ℕ} (e : p ≡ print 0 n) where
-    last-word : x ≡ pick (wordIs s n (getD T (q + (left - 1)) 0)) true (among (left - 1) s n T q)
-    unfolding among
-    last-word = let z : left ≡ suc (left - 1) = omega arith in sym r ∙ ap (λ (k : ℕ). among k s n T q) z
+  none-more : (r : ℕ) {r′ i : ℕ} → NonePast T q k p r → r ≡ r′ + 1 → i ≡ q + r′ → (getD T i 0 % 4294967296 ≡ p → ⊥) → NonePast T q k p r′
+  none-more r {r′} g z e d = record {
+    low = let l = g .low in omega arith;
+    past = λ j a b x.
+        by (eqb j r′)
+        (λ m. let l = eqb-true j r′ m in d (ap (λ (i : ℕ). getD T i 0 % 4294967296) (e ∙ ap (λ (i : ℕ). q + i) (sym l)) ∙ x))
+        (λ m. let l = eqb-false j r′ m in g .past j (omega arith) b x);
+  }
 
-    pub among-other : (getD T (q + (left - 1)) 0 % 4294967296 ≡ p → ⊥) → among (left - 1) s n T q ≡ x
-    unfolding wordIs pick
-    among-other d = rw (last-word, sym e, ne-eqb (getD T (q + (left - 1)) 0 % 2 ^ 32) p d)
+  last-at : {r i : ℕ} → NonePast T q k p r → i ≡ q + (r - 1) → getD T i 0 % 4294967296 ≡ p → LastOfPrint T q k p r
+  last-at g e x = record { none-past = g; has = λ h. ap (λ (i : ℕ). getD T i 0 % 4294967296) (sym e) ∙ x }
 
-    module _ (l : getD T (q + (left - 1)) 0 % 4294967296 ≡ p) {b : Bool} {key : Name} (c : b ≡ eqName key n) (t : key ≡ textAt s (getD T (q + (left - 1)) 0 / 4294967296)) where
-      word-same : x ≡ pick b true (among (left - 1) s n T q)
-      unfolding wordIs pick
-      word-same = rw (last-word, sym e, eq-eqb (getD T (q + (left - 1)) 0 % 2 ^ 32) p l, sym t, sym c)
+  last-none : {r : ℕ} → NonePast T q k p r → r ≡ 0 → LastOfPrint T q k p 0
+  last-none g e = record { none-past = rw e at g; has = λ h. absurd (omega arith) }
 
-      pub among-hit : b ≡ true → true ≡ x
-      unfolding pick
-      among-hit v = rw (word-same, v)
+  module _ {left : ℕ} (g : NonePast T q k p left) where
+    -- two words a turn
+    module _ (h : 1 < left) where
+      pub two-first : getD T (q + (left - 2) + 1) 0 % 4294967296 ≡ p → LastOfPrint T q k p left
+      two-first = last-at g (omega arith)
 
-      pub among-miss : b ≡ false → among (left - 1) s n T q ≡ x
-      unfolding pick
-      among-miss v = rw (word-same, v)
+      module _ (d : getD T (q + (left - 2) + 1) 0 % 4294967296 ≡ p → ⊥) where
+        second : NonePast T q k p (left - 2 + 1)
+        second = none-more left g (omega arith) (omega arith) d
+
+        pub two-second : getD T (q + (left - 2)) 0 % 4294967296 ≡ p → LastOfPrint T q k p (left - 2 + 1)
+        two-second = last-at second (omega arith)
+
+        pub two-none : (getD T (q + (left - 2)) 0 % 4294967296 ≡ p → ⊥) → NonePast T q k p (left - 2)
+        two-none = none-more (left - 2 + 1) second (omega arith) refl
+
+    -- the first word by itself
+    pub first-none : left ≡ 0 → LastOfPrint T q k p 0
+    first-none = last-none g
+
+    module _ (h : left ≤ 1) (a : left ≡ 0 → ⊥) where
+      pub first-has : getD T q 0 % 4294967296 ≡ p → LastOfPrint T q k p 1
+      first-has = let z : left ≡ 1 = omega arith in last-at (rw z at g) (omega arith)
+
+      pub first-other : (getD T q 0 % 4294967296 ≡ p → ⊥) → LastOfPrint T q k p 0
+      first-other d = last-none (none-more left {r′ = 0} g (omega arith) (omega arith) d) refl
+
+-- the name is still to be looked for among the first words of k, the last of which has the print
+pub record Among (s : List ℕ) (n : Name) (T : List ℕ) (q k p left : ℕ) : Type 0 where
+  pub low : left ≤ k
+  pub has : 0 < left → getD T (q + (left - 1)) 0 % 2 ^ 32 ≡ p
+  pub rest : among left s n T q ≡ among k s n T q
+
+module _ (s : List ℕ) (n : Name) (T : List ℕ) (q : ℕ) {p : ℕ} (e : p ≡ print 0 n) where
+  word-other : (k : ℕ) → (getD T (q + k) 0 % 2 ^ 32 ≡ p → ⊥) → among (suc k) s n T q ≡ among k s n T q
+  unfolding among wordIs pick
+  word-other k d = rw (sym e, ne-eqb (getD T (q + k) 0 % 2 ^ 32) p d)
+
+  pub among-past : (k r : ℕ) → NonePast T q k p r → among r s n T q ≡ among k s n T q
+  among-past zero r g = let z : r ≡ 0 = let l = g .low in omega arith in ap (λ (i : ℕ). among i s n T q) z
+  among-past (suc k) r g =
+      by (eqb r (suc k))
+      (λ m. ap (λ (i : ℕ). among i s n T q) (eqb-true r (suc k) m))
+      (λ m.
+      let d = eqb-false r (suc k) m in
+      let l = g .low in
+      among-past k r (record { low = omega arith; past = λ j a b. g .past j a (omega arith) })
+      ∙ sym (word-other k (g .past k (omega arith) (omega arith))))
+
+  module _ (k : ℕ) where
+    pub among-start : {left : ℕ} → LastOfPrint T q k p left → Among s n T q k p left
+    among-start {left} g = record { low = g .none-past .low; has = g .has; rest = among-past k left (g .none-past) }
+
+    module _ {left : ℕ} (g : Among s n T q k p left) where
+      pub among-none : left ≤ 0 → false ≡ among k s n T q
+      unfolding among
+      among-none h = let z : left ≡ 0 = omega arith in sym (ap (λ (j : ℕ). among j s n T q) z) ∙ g .rest
+
+      module _ (h : 0 < left) {b : Bool} {key : Name} (c : b ≡ eqName key n) (t : key ≡ textAt s (getD T (q + (left - 1)) 0 / 4294967296)) where
+        last-word : among k s n T q ≡ pick b true (among (left - 1) s n T q)
+        unfolding among wordIs pick
+        last-word =
+            let z : left ≡ suc (left - 1) = omega arith in
+            sym (g .rest) ∙ ap (λ (j : ℕ). among j s n T q) z ∙ rw (sym e, eq-eqb (getD T (q + (left - 1)) 0 % 2 ^ 32) p (g .has h), sym t, sym c)
+
+        pub among-hit : b ≡ true → true ≡ among k s n T q
+        unfolding pick
+        among-hit v = rw (last-word, v)
+
+        pub among-miss : b ≡ false → {m : ℕ} → LastOfPrint T q (left - 1) p m → Among s n T q k p m
+        unfolding pick
+        among-miss v {m} l = record {
+          low = let x = l .none-past .low in let y = g .low in omega arith;
+          has = l .has;
+          rest = among-past (left - 1) m (l .none-past) ∙ rw (last-word, v);
+        }
 
 module _ (s : List ℕ) (n : Name) (T : List ℕ) (q : ℕ) where
   pub segment-out : length T ≤ q → false ≡ segmentHas s n T q
@@ -68,9 +137,9 @@ module _ (s : List ℕ) (n : Name) (T : List ℕ) (q : ℕ) where
     unfolding segmentHas pick
     segment-wide l = rw (lt-ltb q (length T) h, le-ltb (getD T q 0) (length T - q) l)
 
-    pub segment-start : getD T q 0 < length T - q → among (getD T q 0) s n T (q + 1) ≡ segmentHas s n T q
+    pub segment-has : {b : Bool} → getD T q 0 < length T - q → b ≡ among (getD T q 0) s n T (q + 1) → b ≡ segmentHas s n T q
     unfolding segmentHas pick
-    segment-start l = rw (lt-ltb q (length T) h, lt-ltb (getD T q 0) (length T - q) l)
+    segment-has l e = rw (lt-ltb q (length T) h, lt-ltb (getD T q 0) (length T - q) l) e
 
 -- by the word under an enum's name
 module _ (s T : List ℕ) (n : Name) (w : ℕ) where
@@ -183,7 +252,7 @@ module _ (s : List ℕ) (list : ℕ) (T : List ℕ) (q many : ℕ) where
           has = λ z n.
               let i : j ≡ many = omega arith in
               let d : many - j ≡ 0 = omega arith in
-              sym (segment-start s n (set T′ q many) q (omega arith) (omega arith))
+              sym (segment-has s n (set T′ q many) q (omega arith) (omega arith) refl)
               ∙ ap (λ (m : ℕ). among m s n (set T′ q many) (q + 1)) (c ∙ sym i)
               ∙ among-kept s n T′ (set T′ q many) (q + 1) j (λ a b. getD-set-other T′ q (q + 1 + a) many 0 (λ (e : q + 1 + a ≡ q). omega arith))
               ∙ sym (either-none (among j s n T′ (q + 1)))

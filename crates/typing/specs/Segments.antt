@@ -25,6 +25,16 @@ unfoldable pub among : ℕ → List ℕ → Name → List ℕ → ℕ → Bool
 among zero s n T q = false
 among (suc k) s n T q = pick (wordIs s n (getD T (q + k) 0)) true (among k s n T q)
 
+-- of the k words from word q on none has the print from number r on
+pub record NonePast (T : List ℕ) (q k p r : ℕ) : Type 0 where
+  pub low : r ≤ k
+  pub past : (j : ℕ) → r ≤ j → j < k → getD T (q + j) 0 % 2 ^ 32 ≡ p → ⊥
+
+-- and the one before has, if any
+pub record LastOfPrint (T : List ℕ) (q k p r : ℕ) : Type 0 where
+  pub none-past : NonePast T q k p r
+  pub has : 0 < r → getD T (q + (r - 1)) 0 % 2 ^ 32 ≡ p
+
 -- whether the segment that begins at word q, and ends in the table, has the name
 unfoldable pub segmentHas : List ℕ → Name → List ℕ → ℕ → Bool
 segmentHas s n T q = pick (ltb q (length T)) (pick (ltb (getD T q 0) (length T - q)) (among (getD T q 0) s n T (q + 1)) false) false

@@ -11,8 +11,58 @@ ghost use mathlib.Core.Path.{_≡_};
 ghost use Prim.Native.Nat.{_+_, _*_, _<_, _≤_};
 ghost use lib.ListN.{length};
 ghost use Rattle.typing.specs.Table.{pairsAt};
-ghost use Rattle.typing.specs.Segments.{segmentHas, variantIn, Segmented, IndexedOne, Indexed};
+ghost use Rattle.typing.specs.Lanes.{print};
+ghost use Rattle.typing.specs.Segments.{LastOfPrint, among, segmentHas, variantIn, Segmented, IndexedOne, Indexed};
 ghost use Rattle.typing.specs.Blocks.{KeepsEnums};
+
+// How many of so many words from word q on end with the last that has the print; 0 where none has it. Two words a turn.
+fn last_of_print(table: &[usize], q: usize, many: usize, p: u32) -> usize
+    requires { ⌜ q + many ≤ length (now table) ⌝ }
+    ensures { λ r. ⌜ LastOfPrint (now (table .entry)) q many p r ⌝ }
+{
+    let mut left = many;
+    while 1 < left {
+        let i = left - 2;
+        if (table[q + i + 1] % 4294967296) as u32 == p {
+            return left;
+        }
+        if (table[q + i] % 4294967296) as u32 == p {
+            return i + 1;
+        }
+        left = i;
+    }
+    if left == 0 {
+        return 0;
+    }
+    if (table[q] % 4294967296) as u32 == p {
+        return 1;
+    }
+    0
+}
+
+// Whether one of so many words from word q on is that of a name with the print, from the last on.
+fn in_words<'a>(
+    doc: &'a [u8],
+    table: &'a [usize],
+    q: usize,
+    many: usize,
+    p: u32,
+    name: &'a [u8],
+) -> bool
+    requires { ⌜ q + many ≤ length (now table) ⌝ }
+    requires { ⌜ p ≡ print 0 (now name) ⌝ }
+    ensures { λ r. ⌜ r ≡ among many (now (doc .entry)) (now (name .entry)) (now (table .entry)) q ⌝ }
+{
+    let mut left = last_of_print(table, q, many, p);
+    while 0 < left {
+        let i = left - 1;
+        if same(text_at(doc, table[q + i] / 4294967296), name) {
+            return true;
+        }
+        left = last_of_print(table, q, i, p);
+    }
+    false
+}
 
 // Whether the segment that begins at word q has the name.
 fn in_segment<'a>(doc: &'a [u8], table: &'a [usize], q: usize, name: &'a [u8]) -> bool
@@ -27,18 +77,7 @@ fn in_segment<'a>(doc: &'a [u8], table: &'a [usize], q: usize, name: &'a [u8]) -
         return false;
     }
     let p = print_bytes(name, 0);
-    let first = q + 1;
-    let mut left = many;
-    while 0 < left {
-        left -= 1;
-        let w = table[first + left];
-        if (w % 4294967296) as u32 == p {
-            if same(text_at(doc, w / 4294967296), name) {
-                return true;
-            }
-        }
-    }
-    false
+    in_words(doc, table, q + 1, many, p, name)
 }
 
 // Whether the enum with a word under its name has the variant.
