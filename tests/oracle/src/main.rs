@@ -4,6 +4,7 @@
 mod bench;
 mod causes;
 mod compare;
+mod crowds;
 mod decode;
 mod encode;
 mod examples;

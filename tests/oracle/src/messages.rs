@@ -1,6 +1,7 @@
 //! Documents of every kind with all that the program `offercheck` is to print
 //! for each, by the original: kept for a replay, and put to a program.
 
+use crate::crowds::pools;
 use crate::decode::{answer, decode};
 use crate::encode::encode;
 use crate::generate::build::{
@@ -326,14 +327,15 @@ fn any(rng: &mut Rng, source: &mut Source, number: usize) -> Vec<u8> {
 /// One transition whose guard joins equalities; names come again, and some of
 /// these guards give a name two values.
 fn guarded(rng: &mut Rng) -> Ir {
-    let many = rng.of(&[2, 30, 31, 32, 33, 34, 300, 3_600]);
+    let many = rng.of(&[2, 30, 31, 32, 33, 34, 300, 3_000]);
+    let names = rng.of(&pools().each_ref());
     let other = rng.below(2 * many);
     let equal = |place: usize| {
-        let name = format!("v{:03x}", rng.below(many));
+        let name = called(rng, names, many);
         let value = int(u64::from(place == other));
         match rng.chance(1, 2) {
-            true => binary(BinOp::Eq, path(&[&name]), value),
-            false => binary(BinOp::Eq, value, path(&[&name])),
+            true => binary(BinOp::Eq, path(&[name]), value),
+            false => binary(BinOp::Eq, value, path(&[name])),
         }
     };
     let guard = joined(BinOp::LogicAnd, (0..many).map(equal).collect());
@@ -351,71 +353,91 @@ fn length(rng: &mut Rng) -> usize {
     rng.of(&[0, 1, 3, 14, 15, 16, 17, 18, 40, 255])
 }
 
-/// One of so many names.
-fn called(rng: &mut Rng, many: usize) -> String {
-    format!("x{}", rng.below(many))
+/// One of so many of the names.
+fn called<'a>(rng: &mut Rng, names: &'a [String], many: usize) -> &'a str {
+    &names[rng.below(many.min(names.len()))]
 }
 
-fn value(rng: &mut Rng, many: usize) -> Expr {
-    match rng.chance(1, 2) {
-        true => int(1),
-        false => path(&[&called(rng, many)]),
+/// A literal, a name, or a variant by its path.
+fn value(rng: &mut Rng, names: &[String], many: usize) -> Expr {
+    match rng.below(4) {
+        0 | 1 => int(1),
+        2 => path(&[called(rng, names, many)]),
+        _ => {
+            let mode = format!("Mode{}", rng.below(3));
+            path(&[&mode, called(rng, names, many)])
+        }
     }
 }
 
 /// A pattern of the event that has fields, or of one that has none.
-fn binding(rng: &mut Rng, fields: usize, many: usize) -> EventPattern {
+fn binding(rng: &mut Rng, fields: usize, names: &[String], many: usize) -> EventPattern {
     let field = |k: usize| -> PatternField {
         let name = match rng.below(8) {
             0 => None,
-            1 => Some(called(rng, many)),
-            _ => Some(format!("y{k}")),
+            1 => Some(called(rng, names, many).to_string()),
+            _ => Some(names[k].clone()),
         };
         pattern(name.as_deref(), PatternExpr::Wildcard)
     };
     let fields: Vec<PatternField> = (0..fields).map(field).collect();
     match rng.below(6) {
-        0 => event("E", Some(unit_pattern(&called(rng, many)))),
+        0 => event("E", Some(unit_pattern(called(rng, names, many)))),
         1 => event("E", None),
         _ => event("E", Some(field_pattern("f", fields))),
     }
 }
 
 /// Up to three modules whose lists are short or very long, of names that are
-/// declared, repeated or unknown.
+/// declared, repeated or unknown, and in some share a lane or a print.
 fn listed(rng: &mut Rng) -> Ir {
     let modules = rng.between(1, 3);
     let module = |k: usize| {
         let many = rng.of(&[3, 30, 400]);
+        let names = rng.of(&pools().each_ref()).as_slice();
+        let some = |rng: &mut Rng| -> Vec<&str> {
+            let many_of = length(rng);
+            (0..many_of).map(|_| called(rng, names, many)).collect()
+        };
         let fields = length(rng);
-        let names: Vec<String> = (0..fields).map(|k| format!("z{k}")).collect();
-        let typed: Vec<(&str, Type)> = names.iter().map(|n| (n.as_str(), bit(8))).collect();
+        let typed: Vec<(&str, Type)> = names[..fields]
+            .iter()
+            .map(|n| (n.as_str(), bit(8)))
+            .collect();
         let mut events = vec![with_fields("f", &typed)];
-        events.extend((0..length(rng)).take(254).map(|_| unit(&called(rng, many))));
+        events.extend(some(rng).into_iter().take(254).map(unit));
         let transition = |id: usize| Transition {
             id,
             priority: Some(id as u32),
-            pattern: binding(rng, fields, many),
-            guard: rng.chance(1, 3).then(|| value(rng, many)),
-            assignments: (0..length(rng))
-                .map(|_| set(&called(rng, many), value(rng, many)))
+            pattern: binding(rng, fields, names, many),
+            guard: rng.chance(1, 3).then(|| value(rng, names, many)),
+            assignments: some(rng)
+                .into_iter()
+                .map(|n| set(n, value(rng, names, many)))
                 .collect(),
             emits: (0..length(rng).min(20))
-                .map(|_| emit("E", Some("f"), vec![value(rng, many)]))
+                .map(|_| emit("E", Some("f"), vec![value(rng, names, many)]))
                 .collect(),
             ..step("A", "E", "A")
         };
+        let transitions = (0..3).map(transition).collect();
+        let mut enums = vec![enum_decl("State", &["A", "B"])];
+        for mode in ["Mode0", "Mode1", "Mode2"] {
+            enums.push(enum_decl(mode, &some(rng)));
+        }
         Module {
-            enums: vec![enum_decl("State", &["A", "B"])],
+            enums,
             initial_state: Some(text("A")),
-            transitions: (0..3).map(transition).collect(),
+            transitions,
             events: vec![group("E", events)],
             outputs: vec![group("E", vec![with_fields("f", &[("g", bit(8))])])],
-            vars: (0..length(rng))
-                .map(|_| var(&called(rng, many), bit(8), value(rng, many)))
+            vars: some(rng)
+                .into_iter()
+                .map(|n| var(n, bit(8), value(rng, names, many)))
                 .collect(),
-            properties: (0..length(rng))
-                .map(|_| property(&called(rng, many), holds(value(rng, many))))
+            properties: some(rng)
+                .into_iter()
+                .map(|n| property(n, holds(value(rng, names, many))))
                 .collect(),
             ..bare(&format!("M{k}"))
         }

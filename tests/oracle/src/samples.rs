@@ -2,10 +2,10 @@
 //! as deep as is allowed, one of a growing number of transitions, and one in
 //! which every pair is found.
 
+use crate::crowds::{of_block, of_one_print, of_table};
 use crate::encode::encode;
 use crate::generate::build::*;
 use crate::lang::ir::*;
-use std::collections::HashMap;
 
 /// A benchmark document under its file name.
 #[derive(Clone)]
@@ -105,12 +105,109 @@ pub fn costly() -> Vec<Sample> {
         ("variants", variants()),
         ("lengths", lengths()),
         ("states", states()),
+        ("crowd", equal_lane()),
+        ("touched", touched_lane()),
+        ("apart", bound_lane()),
+        ("ordered", ordered()),
+        ("longest", longest()),
+        ("spelled", first_of(longest_names(255), 300)),
     ];
     let sample = |(name, ir)| Sample {
         name,
         bytes: encode(&ir),
     };
-    all.map(sample).to_vec()
+    let mut all = all.map(sample).to_vec();
+    all.push(Sample {
+        name: "wide",
+        bytes: widened(&encode(&ir(vec![mixed("Link", 124, 20)])), 32),
+    });
+    all
+}
+
+/// One transition whose guard is 3,200 equalities of names on one lane.
+fn equal_lane() -> Ir {
+    let equal = |n: &String| binary(BinOp::Eq, path(&[n.as_str()]), int(0));
+    guarded(of_table("", 3_200).iter().map(equal).collect())
+}
+
+/// One transition whose guard mentions one of 255 variables on one lane 3,400
+/// times.
+fn touched_lane() -> Ir {
+    first_of(of_table("v", 255), 1_700)
+}
+
+/// 17 transitions whose patterns bind 255 fields on one lane.
+fn bound_lane() -> Ir {
+    binding(&of_table("f", 255), 17)
+}
+
+/// A module of 254 states of the longest names, which begin alike, with a
+/// transition from each and a second one from the last.
+fn ordered() -> Ir {
+    let names: Vec<String> = (0..254)
+        .map(|k| format!("{}{k:03}", "s".repeat(61)))
+        .collect();
+    let states: Vec<&str> = names.iter().map(String::as_str).collect();
+    let from = |id: usize| Transition {
+        id,
+        ..step(states[id.min(253)], "E", states[0])
+    };
+    ir(vec![Module {
+        enums: vec![enum_decl("State", &states)],
+        initial_state: Some(text(states[0])),
+        events: vec![group("E", Vec::new())],
+        transitions: (0..255).map(from).collect(),
+        ..bare("M")
+    }])
+}
+
+/// So many names of as many bytes as there may be.
+fn longest_names(many: usize) -> Vec<String> {
+    (0..many)
+        .map(|k| format!("{k:03}{}", "v".repeat(61)))
+        .collect()
+}
+
+/// Three modules of 255 variables of the longest names that nothing mentions.
+fn longest() -> Ir {
+    let named = |n: &String| var(n, bit(8), int(0));
+    let module = |k: usize| Module {
+        vars: longest_names(255).iter().map(named).collect(),
+        ..mixed(&format!("M{k}"), 0, 0)
+    };
+    ir((0..3).map(module).collect())
+}
+
+/// A document with longer names: each string is followed by underscores up to
+/// so many bytes, but for those that mean something by themselves.
+fn widened(doc: &[u8], width: usize) -> Vec<u8> {
+    const KEPT: [&[u8]; 3] = [b"state", b"State", b"1.0"];
+    let mut out = Vec::new();
+    let mut at = 0;
+    while at < doc.len() {
+        let more = match doc[at] & 31 {
+            0..=23 => 0,
+            long => 1 << (long - 24),
+        };
+        let next = at + 1 + more;
+        if doc[at] >> 5 != 3 {
+            out.extend(&doc[at..next]);
+            at = next;
+            continue;
+        }
+        assert_eq!(more, 0, "the names of this document are short");
+        let end = next + usize::from(doc[at] & 31);
+        match KEPT.contains(&&doc[next..end]) {
+            true => out.extend(&doc[at..end]),
+            false => {
+                out.extend([0x78, width as u8]);
+                out.extend(&doc[next..end]);
+                out.extend(vec![b'_'; width - (end - next)]);
+            }
+        }
+        at = end;
+    }
+    out
 }
 
 /// 11 modules of as many properties and assumptions as there may be, all of
@@ -120,11 +217,9 @@ fn claims() -> Ir {
 }
 
 /// The same of 9 modules, with names that the port has on one of its 1,024
-/// lanes.
+/// lanes by its first key.
 fn claim_lane() -> Ir {
-    let names = (0..).map(|k| format!("p{k:06}"));
-    let one = names.filter(|n| print_of(n) % 1_024 == 0);
-    claimed(one.take(510).collect(), 9)
+    claimed(of_table("p", 510), 9)
 }
 
 /// So many modules of properties and assumptions of 510 names.
@@ -151,10 +246,15 @@ fn equalities() -> Ir {
         }
     };
     let all = (0..=255).flat_map(|k| (0..16).map(equal(k))).take(3_900);
+    guarded(all.collect())
+}
+
+/// One transition whose guard joins these.
+fn guarded(all: Vec<Expr>) -> Ir {
     let module = mixed("Link", 1, 1);
     ir(vec![Module {
         transitions: vec![Transition {
-            guard: Some(joined(BinOp::LogicAnd, all.collect())),
+            guard: Some(joined(BinOp::LogicAnd, all)),
             ..module.transitions[0].clone()
         }],
         ..module
@@ -256,35 +356,12 @@ fn mentions() -> Ir {
 /// The same of 255 variables whose names the port has on one of its 63 lanes
 /// by its first key, 3,600 times.
 fn one_lane() -> Ir {
-    let lane = |n: &String| print_of(n).wrapping_mul(2_654_435_769) / 65_536 % 63;
-    let names = (0..).map(|k| format!("v{k:05}")).filter(|n| lane(n) == 0);
-    first_of(names.take(255).collect(), 1_800)
+    first_of(of_block("v", 255), 1_800)
 }
 
 /// The same of 255 variables whose names have one print, 3,200 times.
 fn one_print() -> Ir {
     first_of(of_one_print(255), 1_600)
-}
-
-/// The print that the port makes of a name.
-fn print_of(name: &str) -> u32 {
-    let step = |h: u32, b: u8| h.wrapping_mul(16_777_619).wrapping_add(b.into());
-    name.bytes().fold(0, step)
-}
-
-/// So many names of nine letters that have one print: the last four make up for
-/// the first five.
-fn of_one_print(many: usize) -> Vec<String> {
-    let letter = |k: u32| char::from_digit(k % 32, 32).unwrap_or('0');
-    let four = |k: u32| -> String { [15, 10, 5, 0].map(|n| letter(k >> n)).iter().collect() };
-    let five = |k: u32| format!("{}{}", letter(10 + (k >> 20)), four(k));
-    let ends: HashMap<u32, u32> = (0..1 << 20).map(|k| (print_of(&four(k)), k)).collect();
-    let weight = 16_777_619_u32.wrapping_pow(4);
-    let ending = |k: u32| {
-        let rest = 0_u32.wrapping_sub(print_of(&five(k)).wrapping_mul(weight));
-        ends.get(&rest).map(|e| five(k) + &four(*e))
-    };
-    (0..4 << 20).filter_map(ending).take(many).collect()
 }
 
 /// One transition whose guard says so many times that the first of some
@@ -314,27 +391,30 @@ fn sets() -> Ir {
 
 /// 20 transitions whose patterns bind 255 fields each.
 fn bindings() -> Ir {
+    binding(&names("f"), 20)
+}
+
+/// So many transitions whose patterns bind fields of these names.
+fn binding(names: &[String], many: usize) -> Ir {
     let step = |place: usize| Transition {
-        pattern: binding_all(),
+        pattern: binding_all(names),
         ..mixed_step(3 * place + 2)
     };
     ir(vec![Module {
-        events: event_of_all(),
-        transitions: (0..20).map(step).collect(),
+        events: event_of_all(names),
+        transitions: (0..many).map(step).collect(),
         ..mixed("Link", 0, 1)
     }])
 }
 
-/// An event of as many fields as there may be.
-fn event_of_all() -> Vec<ConstructorGroup> {
-    let names = names("f");
+/// An event of fields of these names.
+fn event_of_all(names: &[String]) -> Vec<ConstructorGroup> {
     let fields: Vec<(&str, Type)> = names.iter().map(|n| (n.as_str(), bit(8))).collect();
     vec![group("Net", vec![with_fields("all", &fields)])]
 }
 
 /// A pattern that binds them all.
-fn binding_all() -> EventPattern {
-    let names = names("f");
+fn binding_all(names: &[String]) -> EventPattern {
     let bound = |n: &String| pattern(Some(n), PatternExpr::Wildcard);
     let fields = names.iter().map(bound).collect();
     event("Net", Some(field_pattern("all", fields)))
@@ -345,12 +425,12 @@ fn binding_all() -> EventPattern {
 fn bound() -> Ir {
     let less = binary(BinOp::Lt, path(&["v000"]), path(&["v000"]));
     let step = Transition {
-        pattern: binding_all(),
+        pattern: binding_all(&names("f")),
         guard: Some(joined(BinOp::LogicOr, vec![less; 1_900])),
         ..mixed_step(2)
     };
     ir(vec![Module {
-        events: event_of_all(),
+        events: event_of_all(&names("f")),
         vars: crowd(),
         transitions: vec![step],
         ..mixed("Link", 0, 1)
