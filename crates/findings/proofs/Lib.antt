@@ -53,6 +53,8 @@ pub mod VariantLaws
 pub mod ClashLaws
 pub mod RivalLaws
 pub mod OrderLaws
+pub mod LeastLaws
+pub mod LoneLaws
 pub mod StateTurns
 pub mod DeadLaws
 pub mod ReachLaws

@@ -40,7 +40,7 @@ pub perm-member : {ns ms : List Name} → List·Permᴰ ns ms → (n : Name) →
 perm-member {ns} {ms} p n = rw (member-any n ns, member-any n ms) (perm-any (λ x. eqName x n) p)
 
 -- the least of some names is one of them
-least-mem : (x : Name) (xs : List Name) → List·Memᴰ (least x xs) (x ∷ xs)
+pub least-mem : (x : Name) (xs : List Name) → List·Memᴰ (least x xs) (x ∷ xs)
 least-mem x [] = List·Memᴰ·head refl
 least-mem x (y ∷ xs) = go (earlier y x) (least-mem (cond (earlier y x) y x) xs)
   where
@@ -60,7 +60,7 @@ without-le s (x ∷ ns) = go (eqName s x) (without-le s ns)
     go true h = omega arith
     go false h = omega arith
 
-without-lt : {s : Name} {ns : List Name} → List·Memᴰ s ns → length (without s ns) < length ns
+pub without-lt : {s : Name} {ns : List Name} → List·Memᴰ s ns → length (without s ns) < length ns
 without-lt {s} (List·Memᴰ·head {x} {xs} e) = rw (eqName-of-eq e) (omega (arith, without-le s xs))
 without-lt {s} (List·Memᴰ·tail {x} {xs} m) = go (eqName s x) (without-lt m)
   where
@@ -69,7 +69,7 @@ without-lt {s} (List·Memᴰ·tail {x} {xs} m) = go (eqName s x) (without-lt m)
     go false h = omega arith
 
 -- the names but s
-member-without : (a s : Name) (ns : List Name) → member a (without s ns) ≡ cond (eqName s a) false (member a ns)
+pub member-without : (a s : Name) (ns : List Name) → member a (without s ns) ≡ cond (eqName s a) false (member a ns)
 unfolding member pick
 member-without a s [] = go (eqName s a)
   where

@@ -162,6 +162,15 @@ pub each-none : {A B : Type 0} (f : A → List B) (xs : List A) → ((x : A) →
 each-none f [] h = refl
 each-none f (x ∷ xs) h = rw (h x) (each-none f xs h)
 
+each-placed-none : {A B : Type 0} (f : Placed A → List B) (o : ℕ) (ts : List A) → ((j : ℕ) (y : Placed A) → getElem? ts j ≡ some (y .item) → f y ≡ []) → each f (placed o ts) ≡ []
+each-placed-none f o [] h = refl
+each-placed-none f o (t ∷ ts) h = rw (h 0 (at-place o t) refl) (each-placed-none f (suc o) ts (λ j. h (suc j)))
+
+pub each-pair-none : {A B : Type 0} (f : Placed A → Placed A → List B) (o : ℕ) (ts : List A) → ((i j : ℕ) (x y : Placed A) → i < j → getElem? ts i ≡ some (x .item) → getElem? ts j ≡ some (y .item) → f x y ≡ []) → eachPair f (placed o ts) ≡ []
+each-pair-none f o [] h = refl
+each-pair-none f o (t ∷ ts) h =
+    rw (each-placed-none (f (at-place o t)) (suc o) ts (λ j y g. h 0 (suc j) (at-place o t) y (omega arith) refl g)) (each-pair-none f (suc o) ts (λ i j x y l. h (suc i) (suc j) x y (omega arith)))
+
 later-none : (warn : Bool) (x : Placed Transition) (k : ℕ) (us : List Transition) → any (rival (x .item)) us ≡ false → each (pairNotes warn x) (placed k us) ≡ []
 later-none warn x k [] e = refl
 later-none warn x k (u ∷ us) e =

@@ -1,13 +1,13 @@
 -- Pairs by state while they are noted: what is noted, and what is still to be noted, make the whole.
 use Prim.Native.Nat.{ℕ, zero, suc, _+_, _-_, _*_, _<_, _≤_}
 use mathlib.Core.Path.{_≡_, refl, sym, ap, _∙_}
-use mathlib.Core.List.{List, [], _∷_, _++_, map}
+use mathlib.Core.List.{List, [], _∷_, _++_}
 use mathlib.Core.Bool.{Bool, true, false}
 use mathlib.Core.Option.{none, some}
 use native.Mathlib.Omega.{arith}
 use native.Mathlib.Numerals.{add-one}
 use lib.Dec.{eqb}
-use lib.ListN.{length, drop, getD, getElem?, replicate, drop-of-length-le}
+use lib.ListN.{length, drop, getD, getElem?, drop-of-length-le}
 use Rattle.reading.specs.Text.{Name}
 use Rattle.reading.specs.Skip.{textAt}
 use Rattle.reading.specs.Transition.{Transition}
@@ -16,14 +16,14 @@ use Rattle.typing.specs.Names.{eqName}
 use Rattle.findings.specs.Lists.{Placed, placed, each, eachPair}
 use Rattle.findings.specs.Finding.{Note}
 use Rattle.findings.specs.Order.{least, without, ordered}
-use Rattle.findings.specs.Pairs.{stateOf, stateNames, byState}
+use Rattle.findings.specs.Pairs.{byState}
 use Rattle.findings.specs.Noting.{Noted}
 use Rattle.findings.specs.Scene.{field, Rows}
 use Rattle.findings.specs.Prints.{Prints}
 use Rattle.findings.specs.Promises.{at-place}
 use Rattle.findings.specs.PairPromises.{pairNotes, NotesPairs}
 use Rattle.findings.specs.PairSteps.{NoPairs}
-use Rattle.findings.specs.Classes.{kindNotes, Bare, Classed}
+use Rattle.findings.specs.Classes.{kindNotes, Bare, Lone, Classed}
 use Rattle.findings.specs.StateSteps.{undone, nextName, stateIn, NextState, StateMarked, inState, NotesLater, NotesRow, NotesOfState}
 use Rattle.findings.proofs.NoteLaws.{note-nothing, note-as}
 use Rattle.findings.proofs.EachLaws.{Left, left-all, left-more, left-none, eachFrom, each-turn, each-done}
@@ -32,6 +32,7 @@ use Rattle.findings.proofs.PairTests.{states-bytes, states-differ}
 use Rattle.findings.proofs.ClashLaws.{kind-none, kind-notes}
 use Rattle.findings.proofs.FirstLaws.{one-kind, two-kinds, guards-told}
 use Rattle.findings.proofs.RivalLaws.{each-none, by-state-none}
+use Rattle.findings.proofs.LoneLaws.{group, undone-groups}
 
 each-as : {A B : Type 0} (f g : A → List B) (xs : List A) → ((x : A) → f x ≡ g x) → each f xs ≡ each g xs
 each-as f g [] h = refl
@@ -143,34 +144,16 @@ ordered-end zero l e = refl
 ordered-end (suc k) [] e = refl
 ordered-end (suc k) (x ∷ xs) e = no (cc)
 
--- at first none is done
-zeros : (n k : ℕ) → _≡_ {A = ℕ} (getD (replicate n 0) k 0) 0
-zeros zero k = refl
-zeros (suc n) zero = refl
-zeros (suc n) (suc k) = zeros n k
-
-undone-all : (n k : ℕ) (ts : List Transition) → undone (replicate n 0) k ts ≡ map stateOf ts
-unfolding undone
-undone-all n k [] = refl
-undone-all n k (t ∷ ts) = rw (zeros n k) (ap (λ (l : List Name). t .state ∷ l) (undone-all n (suc k) ts))
-
 module _ (s : List ℕ) (owner : ℕ) (o : List ℕ) (skip n : ℕ) (rows prints : List ℕ) (count : ℕ) (warn : Bool) where
-  abbrev group : List Transition → Name → List Note
-  group ts w = eachPair (inState warn w) (placed 0 ts)
-
-  -- so many states are done, those of the marked transitions
+  -- so many states are done, and the rest are those of the transitions that are not marked
   pub record TurnsLeft (marks : List ℕ) (turns m : ℕ) (out : List ℕ) : Type 0 where
-    pub of : (ts : List Transition) → Rows s rows ts → Prints prints ts → count ≡ length ts → Left owner o skip n (byState (pairNotes warn) ts) m out (each (group ts) (ordered (count - turns) (undone marks 0 ts)))
+    pub of : (ts : List Transition) → Rows s rows ts → Prints prints ts → count ≡ length ts → Left owner o skip n (byState (pairNotes warn) ts) m out (each (group warn ts) (ordered (count - turns) (undone marks 0 ts)))
 
-  all-groups : (k : ℕ) (ts : List Transition) → count ≡ length ts → byState (pairNotes warn) ts ≡ each (group ts) (ordered (count - 0) (undone (replicate k 0) 0 ts))
-  unfolding byState stateNames inState
-  all-groups k ts e =
-      let z : count - 0 ≡ length ts = omega arith in
-      rw (z, undone-all k 0 ts)
-
-  pub turns-start : TurnsLeft (replicate 256 0) 0 n o
-  turns-start = record {
-    of = λ ts R P e. left-more owner o skip n (byState (pairNotes warn) ts) (left-all owner o skip n (byState (pairNotes warn) ts)) [] (all-groups 256 ts e) (note-nothing owner o skip n);
+  -- at first those are marked that are the only ones of their kind
+  pub turns-start : {kinds guards marks : List ℕ} → Classed s rows prints count kinds guards → Lone count kinds marks → TurnsLeft marks 0 n o
+  turns-start c k = record {
+    of = λ ts R P e.
+        left-more owner o skip n (byState (pairNotes warn) ts) (left-all owner o skip n (byState (pairNotes warn) ts)) [] (undone-groups c k warn ts R P e (count - 0) (omega arith)) (note-nothing owner o skip n);
   }
 
   module _ {marks : List ℕ} {turns m : ℕ} {out : List ℕ} (w : TurnsLeft marks turns m out) {b : ℕ} (x : NextState s rows count marks b) where
@@ -183,8 +166,8 @@ module _ (s : List ℕ) (owner : ℕ) (o : List ℕ) (skip n : ℕ) (rows prints
           let y : some (t .item .state) ≡ nextName none (undone marks 0 ts) = ap stateIn (sym (t .is)) ∙ x .of ts R e in
           let v = ordered-next (count - (turns + 1)) (undone marks 0 ts) (t .item .state) y in
           let u = q .of ts R P e (t .item) (t .is) in
-          left-more owner o skip n (byState (pairNotes warn) ts) (w .of ts R P e) (group ts (t .item .state))
-          (ap (λ (k : ℕ). each (group ts) (ordered k (undone marks 0 ts))) z ∙ ap (each (group ts)) v ∙ ap (λ (us : List Name). group ts (t .item .state) ++ each (group ts) (ordered (count - (turns + 1)) us)) (sym u))
+          left-more owner o skip n (byState (pairNotes warn) ts) (w .of ts R P e) (group warn ts (t .item .state))
+          (ap (λ (k : ℕ). each (group warn ts) (ordered k (undone marks 0 ts))) z ∙ ap (each (group warn ts)) v ∙ ap (λ (us : List Name). group warn ts (t .item .state) ++ each (group warn ts) (ordered (count - (turns + 1)) us)) (sym u))
           (p .of ts R P e (t .item) (t .is));
     }
 
@@ -194,14 +177,14 @@ module _ (s : List ℕ) (owner : ℕ) (o : List ℕ) (skip n : ℕ) (rows prints
       of = λ ts R P e.
           let g : length ts ≤ b = omega arith in
           let y : none ≡ nextName none (undone marks 0 ts) = ap stateIn (sym (entry-past ts b g)) ∙ x .of ts R e in
-          left-none owner o skip n (byState (pairNotes warn) ts) (w .of ts R P e) (ap (each (group ts)) (ordered-end (count - turns) (undone marks 0 ts) y));
+          left-none owner o skip n (byState (pairNotes warn) ts) (w .of ts R P e) (ap (each (group warn ts)) (ordered-end (count - turns) (undone marks 0 ts) y));
     }
 
   pub turns-done : {marks : List ℕ} {turns m : ℕ} {out : List ℕ} → TurnsLeft marks turns m out → count ≤ turns → NotesPairs s owner o skip n m out rows prints count warn
   turns-done {marks} {turns} w h = record {
     of = λ ts R P e.
         let z : count - turns ≡ 0 = omega arith in
-        left-none owner o skip n (byState (pairNotes warn) ts) (w .of ts R P e) (ap (λ (k : ℕ). each (group ts) (ordered k (undone marks 0 ts))) z);
+        left-none owner o skip n (byState (pairNotes warn) ts) (w .of ts R P e) (ap (λ (k : ℕ). each (group warn ts) (ordered k (undone marks 0 ts))) z);
   }
 
   -- where no two have one key

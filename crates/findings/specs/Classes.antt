@@ -2,10 +2,12 @@
 -- bytes. Something is noted only of two transitions of one kind.
 use Prim.Native.Nat.{ℕ, _<_, _≤_}
 use mathlib.Core.Path.{_≡_}
+use mathlib.Core.Logic.{_≢_}
 use mathlib.Core.List.{List}
 use mathlib.Core.Bool.{Bool, true, false, cond, not}
 use mathlib.Core.Option.{Option, none, some}
-use lib.ListN.{length, getD, getElem?}
+use lib.Dec.{eqb}
+use lib.ListN.{length, getD, getElem?, set}
 use Rattle.reading.specs.Text.{Name}
 use Rattle.reading.specs.Encode.{encOption}
 use Rattle.reading.specs.Expr.{encExpr}
@@ -75,3 +77,11 @@ pub record Known (s rows prints : List ℕ) (ts : List Transition) : Type 0 wher
 pub record Classed (s rows prints : List ℕ) (count : ℕ) (kinds guards : List ℕ) : Type 0 where
   pub kinds-are : Tabled (FirstAt kindOf (Known s rows prints) count) count kinds
   pub guards-are : Tabled (FirstAt guardOf (Rows s rows) count) count guards
+
+-- the marks but those of places i and j where they are two
+unfoldable pub unmarked : ℕ → ℕ → List ℕ → List ℕ
+unmarked i j marks = cond (eqb i j) marks (set (set marks i 0) j 0)
+
+-- a place that is marked has a number that no other has
+pub record Lone (count : ℕ) (kinds marks : List ℕ) : Type 0 where
+  pub of : (i j : ℕ) → i < count → j < count → i ≢ j → getD kinds i 0 ≡ getD kinds j 0 → getD marks i 0 ≡ 0

@@ -3,6 +3,7 @@ use crate::clash::no_priority;
 use crate::clash::note_pair;
 use crate::classes::first_guards;
 use crate::classes::first_kinds;
+use crate::classes::lone;
 use crate::order::mark_state;
 use crate::order::next_state;
 use crate::pairs::same_fields;
@@ -136,7 +137,7 @@ fn note_of_state(
     m
 }
 
-// Notes the pairs of each state, the least first.
+// Notes the pairs of each state that has one, the least first.
 fn note_states(
     doc: &[u8],
     rows: &[usize],
@@ -156,7 +157,7 @@ fn note_states(
     ensures { λ r. ⌜ NotesPairs (now (doc .entry)) owner (now (out .entry)) skip n r (now (out .exit)) (now (rows .entry)) (now (prints .entry)) count warn ⌝ }
     ensures { λ r. ⌜ r ≤ n + 33162750 ⌝ }
 {
-    let mut done: [u8; 256] = [0; 256];
+    let mut done = lone(kinds, count);
     let mut m = n;
     let mut turns: u8 = 0;
     while turns < count {

@@ -1,13 +1,14 @@
-// Classes of transitions: for each transition the first one of its kind, and the first one that has its guard.
+// Classes of transitions: for each transition the first one of its kind, whether it is the only one, and the first one that has its guard.
 use crate::pairs::alike;
 use crate::pairs::same_guard;
 use crate::prints::print_part;
 use crate::priority::same_priority;
 use crate::rows::field;
+ghost use mathlib.Core.Path.{_≡_};
 ghost use Prim.Native.Nat.{_≤_};
 ghost use lib.ListN.{length};
 ghost use Rattle.findings.specs.Scene.{Rows};
-ghost use Rattle.findings.specs.Classes.{kindOf, guardOf, SameKind, FirstAt, GuardPrint, Known, Tabled};
+ghost use Rattle.findings.specs.Classes.{kindOf, guardOf, SameKind, FirstAt, GuardPrint, Known, Tabled, unmarked, Lone};
 
 // Whether transitions i and j share state, pattern and priority.
 fn same_kind(doc: &[u8], rows: &[usize], i: u8, j: u8) -> bool
@@ -59,6 +60,30 @@ pub(crate) fn first_kinds(doc: &[u8], rows: &[usize], prints: &[u32], count: u8)
         i += 1;
     }
     kinds
+}
+
+// Unmarks places i and j where they are two.
+fn unmark(marks: &mut [u8; 256], i: u8, j: u8)
+    ensures { λ r. ⌜ now (marks .exit) ≡ unmarked i j (now (marks .entry)) ⌝ }
+{
+    if i == j {
+        return;
+    }
+    marks[i as usize] = 0;
+    marks[j as usize] = 0;
+}
+
+// Marks of the transitions that are the only ones of their kind.
+pub(crate) fn lone(kinds: &[u8; 256], count: u8) -> [u8; 256]
+    ensures { λ r. ⌜ Lone count (now (kinds .entry)) r ⌝ }
+{
+    let mut marks: [u8; 256] = [1; 256];
+    let mut i: u8 = 0;
+    while i < count {
+        unmark(&mut marks, i, kinds[i as usize]);
+        i += 1;
+    }
+    marks
 }
 
 // The print of the guard of transition i.

@@ -20,6 +20,7 @@ note-states-spec =
     (tie.spec
     Inv-loop
     μ-loop
+    (λ c κs. search needs)
     (λ c. (search turns-start, omega arith, omega arith, refl))
     (λ c κs. search needs)
     (λ c. search needs)
