@@ -1,26 +1,28 @@
--- Strings: the loop over their bytes, in which what remains decides; and the string's bytes after its head.
-use Prim.Native.Nat.{ℕ, _+_, _-_, _<_, _≤_}
-use mathlib.Core.Path.{_≡_, sym, ap, _∙_}
-use mathlib.Core.List.{List}
+-- Strings: the loop over their bytes, in which what remains decides; their bytes counted; and the string's bytes after its head.
+use Prim.Native.Nat.{ℕ, suc, _+_, _-_, _<_, _≤_}
+use mathlib.Core.Path.{_≡_, refl, sym, ap, _∙_}
+use mathlib.Core.List.{List, [], _∷_}
 use mathlib.Core.Bool.{Bool, true, false}
-use native.Mathlib.Numerals.{add-one}
+use native.Mathlib.Numerals.{add-one, one-add}
+use native.Mathlib.Omega.{arith}
 use native.Mathlib.Nat.{add-sub-cancel-left}
 use lib.ListN.{length, take, drop, getD, drop-of-length-le, length-drop}
 use lib.Seq.{drop-cons, length-take-le}
-use lib.Dec.{ltb}
-use borrow.Author.Tests.{lt-ltb, le-ltb}
+use lib.Dec.{ltb, eqb, eqb·suc-suc}
+use borrow.Author.Tests.{lt-ltb, le-ltb, ne-eqb}
 use Rattle.reading.specs.Read.{pick, mapR}
 use Rattle.reading.specs.Limits.{maxText}
 use Rattle.reading.specs.Item.{readKind}
 use Rattle.reading.specs.Text.{all, nameByte, versionByte, textBytes, readText}
 use Rattle.reading.specs.Link.{answer, leastOf, alphabetOf}
+use Rattle.reading.specs.Short.{tally, count}
 use Rattle.reading.specs.declared.fault.Fault.the-variants.{Truncated, OutOfRange, OutsideAlphabet}
 use Rattle.reading.specs.declared.cursor.Cursor.{Cursor}
 use Rattle.reading.specs.declared.item.Answer.{Answer}
 use Rattle.reading.specs.declared.item.Answer.the-variants.{Got, Refused}
 use Rattle.reading.specs.declared.text.Text.{Text}
 use Rattle.reading.specs.declared.text.Text.the-variants.{Name, Version}
-use Rattle.reading.proofs.Rules.{pick-true, pick-false, bind-ok, map-ok, map-out}
+use Rattle.reading.proofs.Rules.{by, pick-true, pick-false, bind-ok, map-ok, map-out}
 use Rattle.reading.proofs.Gives.{kind-fits}
 use Rattle.reading.proofs.Answers.{num, answer-ok, answer-out}
 
@@ -56,6 +58,34 @@ module _ (p : ℕ → Bool) (t : List ℕ) (i : ℕ) {b : Bool} (e : b ≡ p (ge
 pub all-done : (p : ℕ → Bool) (t : List ℕ) (i : ℕ) → length t ≤ i → all p (drop i t) ≡ true
 unfolding all pick
 all-done p t i h = rw (drop-of-length-le t h)
+
+-- a tally is one at most
+pub tallied : (b : Bool) {n : ℕ} → n ≡ tally b → (n ≡ tally b) × (n ≤ 1)
+unfolding tally pick
+tallied true e = (e, omega arith)
+tallied false e = (e, omega arith)
+
+-- counting the bytes: those counted, and those among what remains
+module _ (p : ℕ → Bool) (t : List ℕ) (i n : ℕ) where
+  pub count-step : i < length t → {k : ℕ} → k ≡ tally (p (getD t i 0)) → n + count p (drop i t) ≡ count p t → n + k + count p (drop (i + 1) t) ≡ count p t
+  unfolding count
+  count-step h e v = rw (add-one i) (omega (arith, rw (drop-cons t i 0 h) at v))
+
+  pub count-done : length t ≤ i → n + count p (drop i t) ≡ count p t → n ≡ count p t
+  unfolding count
+  count-done h v = omega (arith, rw (drop-of-length-le t h) at v)
+
+-- as many as there are: all
+module _ (p : ℕ → Bool) where
+  count-most : (t : List ℕ) → count p t ≤ length t
+  unfolding count
+  count-most [] = omega arith
+  count-most (x ∷ t) = omega (arith, tallied (p x) refl .1, count-most t)
+
+  pub count-all : (t : List ℕ) {n : ℕ} → n ≡ count p t → eqb n (length t) ≡ all p t
+  unfolding count tally pick all
+  count-all [] e = rw e
+  count-all (x ∷ t) e = by (p x) (λ q. rw (e, q, one-add, eqb·suc-suc) (count-all t refl)) λ q. rw (e, q) (ne-eqb (0 + count p t) (suc (length t)) (λ z. omega (arith, count-most t)))
 
 -- the string's bytes, len of them after its head
 module _ (p : ℕ → Bool) (s : List ℕ) (at len from : ℕ) where

@@ -1,7 +1,7 @@
 -- What the code tests before it reads a whole head, or looks a byte up in an alphabet: shortcuts, each shown to lead to the same answer.
 use Prim.Native.Nat.{ℕ, _+_, _-_, _*_, _≤_}
 use mathlib.Core.Path.{_≡_}
-use mathlib.Core.List.{List}
+use mathlib.Core.List.{List, [], _∷_}
 use mathlib.Core.Bool.{Bool, false}
 use lib.ListN.{length}
 use lib.Dec.{eqb, ltb}
@@ -26,6 +26,14 @@ tagHead b case = pick (ltb b 129) false (pick (ltb b 152) (ltb case 24) false)
 -- the name bytes among the 32 from 32 * row on, one bit each
 unfoldable pub nameRow : ℕ → ℕ
 nameRow row = pick (eqb row 1) 67043328 (pick (eqb row 2) 2281701374 (pick (eqb row 3) 134217726 0))
+
+-- 1 where it holds, else 0; and of how many it holds
+unfoldable pub tally : Bool → ℕ
+tally b = pick b 1 0
+
+unfoldable pub count : (ℕ → Bool) → List ℕ → ℕ
+count p [] = 0
+count p (x ∷ xs) = tally (p x) + count p xs
 
 -- past an item: its whole head says the same, and the bytes after it can hold the items left
 pub record Passes (more : ℕ) (s : List ℕ) (at items : ℕ) (c : Cursor) : Type 0 where

@@ -6,10 +6,11 @@ use crate::limits;
 ghost use mathlib.Core.Path.{_≡_};
 ghost use Prim.Native.Nat.{_≤_};
 ghost use lib.ListN.{length};
-ghost use Rattle.reading.specs.Read.{mapR};
+ghost use lib.Dec.{ltb};
+ghost use Rattle.reading.specs.Read.{mapR, pick};
 ghost use Rattle.reading.specs.Text.{all, nameByte, versionByte, textBytes, readText, readName};
 ghost use Rattle.reading.specs.Link.{answer, leastOf, alphabetOf};
-ghost use Rattle.reading.specs.Short.{nameRow, nameHead};
+ghost use Rattle.reading.specs.Short.{nameRow, nameHead, tally, count};
 
 // What a string is: a name has a byte at least, and a narrower alphabet.
 pub enum Text {
@@ -85,11 +86,57 @@ fn all_version_bytes(bytes: &[u8]) -> bool
     true
 }
 
+// 1 for a byte from one to another, else 0.
+fn within(b: u8, low: u8, high: u8) -> u8
+    ensures { λ r. ⌜ r ≡ pick (ltb b low) 0 (pick (ltb high b) 0 1) ⌝ }
+    ensures { λ r. ⌜ r ≤ 1 ⌝ }
+{
+    if b < low {
+        return 0;
+    }
+    if high < b {
+        return 0;
+    }
+    1
+}
+
+// 1 for a byte of a name, else 0. No branch is left of this, so the compiler counts many bytes at a time.
+fn name_tally(b: u8) -> u8
+    ensures { λ r. ⌜ r ≡ tally (nameByte b) ⌝ }
+    ensures { λ r. ⌜ r ≤ 1 ⌝ }
+{
+    within(b, 48, 57) + within(b, 65, 90) + within(b, 95, 95) + within(b, 97, 122)
+}
+
+// How many bytes are those of a name.
+fn count_name_bytes(bytes: &[u8]) -> u8
+    requires { ⌜ length (now bytes) ≤ 255 ⌝ }
+    ensures { λ r. ⌜ r ≡ count nameByte (now (bytes .entry)) ⌝ }
+{
+    let mut n: u8 = 0;
+    let mut i = 0;
+    while i < bytes.len() {
+        n += name_tally(bytes[i]);
+        i += 1;
+    }
+    n
+}
+
+// The same as `all_name_bytes`, by counting: for the longer names.
+fn all_counted(bytes: &[u8]) -> bool
+    ensures { λ r. ⌜ r ≡ all nameByte (now (bytes .entry)) ⌝ }
+{
+    if 255 < bytes.len() {
+        return all_name_bytes(bytes);
+    }
+    count_name_bytes(bytes) as usize == bytes.len()
+}
+
 fn all_in_alphabet(text: Text, bytes: &[u8]) -> bool
     ensures { λ r. ⌜ r ≡ all (alphabetOf text) (now (bytes .entry)) ⌝ }
 {
     match text {
-        Text::Name => all_name_bytes(bytes),
+        Text::Name => all_counted(bytes),
         Text::Version => all_version_bytes(bytes),
     }
 }

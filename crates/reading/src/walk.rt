@@ -7,7 +7,7 @@ use crate::item::Answer;
 use crate::step::Step;
 ghost use mathlib.Core.Path.{_≡_};
 ghost use Prim.Native.Nat.{_+_, _<_, _≤_};
-ghost use lib.ListN.{length};
+ghost use lib.ListN.{length, getD};
 ghost use Rattle.reading.specs.Items.{inside, payload};
 ghost use Rattle.reading.specs.Skip.{skipBody, skipHead, skipItems, textAt};
 ghost use Rattle.reading.specs.Link.{answer, stands};
@@ -107,6 +107,32 @@ impl Cursor {
         Step::To(Cursor { at })
     }
 
+    // Past a string whose head is two bytes, as that of a name of 24 bytes or more is.
+    fn skip_string(self, doc: &[u8], more: u64) -> Short
+        requires { ⌜ self .at + 1 + more ≤ length (now doc) ⌝ }
+        requires { ⌜ getD (now doc) (self .at) 0 ≡ 120 ⌝ }
+        ensures { λ r. ⌜ Passed more (now (doc .entry)) (self .at) r ⌝ }
+    {
+        let next = self.at + 1;
+        let room = (doc.len() - next) as u64 - more;
+        if room == 0 {
+            return Short::Longer;
+        }
+        let n = doc[next] as u64;
+        if n < 24 {
+            return Short::Longer;
+        }
+        if room <= n {
+            return Short::Longer;
+        }
+        Short::Past(
+            more,
+            Cursor {
+                at: next + 1 + n as usize,
+            },
+        )
+    }
+
     // Past one head of one byte and its string's bytes: how many items are then left, as `skip_head` says.
     fn skip_short(self, doc: &[u8], more: u64) -> Short
         requires { ⌜ self .at + 1 + more ≤ length (now doc) ⌝ }
@@ -144,6 +170,10 @@ impl Cursor {
                         },
                     );
                 }
+                return Short::Longer;
+            }
+            if b == 120 {
+                return self.skip_string(doc, more);
             }
         }
         Short::Longer
@@ -207,8 +237,32 @@ pub fn text_at(doc: &[u8], at: usize) -> &[u8]
     any_text_at(whole, at)
 }
 
-// The same, by the whole head.
+// The same where the head is two bytes; `whole_text_at` reads the others.
 fn any_text_at(doc: &[u8], at: usize) -> &[u8]
+    ensures { λ r. ⌜ now r ≡ textAt (now (doc .entry)) at ⌝ }
+{
+    let len = doc.len();
+    if at < len {
+        if doc[at] == 120 {
+            let next = at + 1;
+            if next < len {
+                let n = doc[next] as usize;
+                if 23 < n {
+                    if n < len - next {
+                        let from = next + 1;
+                        let end = from + n;
+                        return &doc[from..end];
+                    }
+                }
+            }
+        }
+    }
+    let whole = doc;
+    whole_text_at(whole, at)
+}
+
+// The same, by the whole head.
+fn whole_text_at(doc: &[u8], at: usize) -> &[u8]
     ensures { λ r. ⌜ now r ≡ textAt (now (doc .entry)) at ⌝ }
 {
     let c = Cursor { at };
