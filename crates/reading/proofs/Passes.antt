@@ -1,4 +1,4 @@
--- Past an item whose head is one byte: each such head says what the whole head does; the loop over them goes as the definition does.
+-- Past an item whose head is one byte, or a string's of two: each such head says what the whole head does; the loop over them goes as the definition does.
 use Prim.Native.Nat.{ℕ, _+_, _-_, _*_, _/_, _%_, _<_, _≤_}
 use mathlib.Core.Path.{_≡_, refl, ap, _∙_}
 use mathlib.Core.List.{List}
@@ -18,13 +18,13 @@ use Rattle.reading.specs.declared.walk.Short.{Short}
 use Rattle.reading.specs.declared.walk.Short.the-variants.{Past, Longer}
 use Rattle.reading.proofs.Rules.{pick-true, pick-false}
 use Rattle.reading.proofs.Answers.{answer-ok}
-use Rattle.reading.proofs.Short.{by-range, head-one}
+use Rattle.reading.proofs.Short.{by-range, head-one, head-two}
 use Rattle.reading.proofs.Skips.{passed-head, skip-on, skip-less}
 
 module _ (more : ℕ) (s : List ℕ) (at : ℕ) (there : at + 1 + more ≤ length s) where
   -- by the head that is read
-  by-head : {h : Hd} {items n : ℕ} → readHead s at ≡ ok h (at + 1) → more + inside h ≡ items → at + 1 + payload h ≡ n → n + items ≤ length s → Passes more s at items (record { at = n })
-  by-head {h} e u v f = record { head = passed-head s more at h (at + 1) e (omega arith) ∙ rw (u, v); room = f }
+  by-head : {h : Hd} {from items n : ℕ} → readHead s at ≡ ok h from → more + inside h ≡ items → from + payload h ≡ n → n + items ≤ length s → Passes more s at items (record { at = n })
+  by-head {h} {from} e u v f = record { head = passed-head s more at h from e (omega arith) ∙ rw (u, v); room = f }
 
   -- heads of one byte
   head-range : (due : ℕ) → due ≤ 6 → due * 32 ≤ getD s at 0 → getD s at 0 < due * 32 + 24 → readHead s at ≡ ok (record { major = due; argument = getD s at 0 % 32 }) (at + 1)
@@ -52,6 +52,11 @@ module _ (more : ℕ) (s : List ℕ) (at : ℕ) (there : at + 1 + more ≤ lengt
   pub past-string : 96 ≤ getD s at 0 → getD s at 0 < 120 → getD s at 0 % 32 ≤ length s - (at + 1) - more → Passed more s at (Past more (record { at = at + 1 + getD s at 0 % 32 }))
   unfolding Passed inside payload pick
   past-string l m f = by-head (head-range 3 (omega arith) l m) (omega arith) refl (omega arith)
+
+  -- past a string whose head is two bytes
+  pub past-two : getD s at 0 ≡ 120 → 24 ≤ getD s (at + 1) 0 → getD s (at + 1) 0 < length s - (at + 1) - more → Passed more s at (Past more (record { at = at + 1 + 1 + getD s (at + 1) 0 }))
+  unfolding Passed inside payload pick
+  past-two b l f = by-head (head-two s at b (omega arith) l) (omega arith) refl (omega arith)
 
 pub longer : (more : ℕ) (s : List ℕ) (at : ℕ) → Passed more s at Longer
 unfolding Passed

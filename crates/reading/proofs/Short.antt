@@ -1,13 +1,15 @@
--- A head of one byte is read as such, and the two of a data enum.
+-- A head of one byte is read as such, a string's of two bytes, and the two of a data enum.
 use Prim.Native.Nat.{ℕ, _+_, _-_, _*_, _/_, _%_, _<_, _≤_}
 use mathlib.Core.Path.{_≡_, refl, sym, _∙_}
 use mathlib.Core.List.{List}
 use mathlib.Core.Bool.{Bool, true, false}
 use native.Mathlib.Omega.{arith}
+use mir.Syntax.{w8, w64}
+use mir.Val.{Fits}
 use lib.ListN.{length, getD, take, drop}
 use borrow.Author.Tests.{ltb-true, ltb-false, lt-ltb, le-ltb, lt-leb, le-leb, eq-eqb, ne-eqb}
 use Rattle.reading.specs.Read.{ok, pick, mapR}
-use Rattle.reading.specs.Head.{readHead, headWith}
+use Rattle.reading.specs.Head.{readHead, headWith, wideHead, longHead, settled, be1}
 use Rattle.reading.specs.Limits.{maxText}
 use Rattle.reading.specs.Item.{readKind, readTag}
 use Rattle.reading.specs.Text.{all, nameByte, textBytes, readText, readName}
@@ -75,6 +77,20 @@ unfolding oneByte
 by-range due b d l m =
     let k : b - due * 32 < 24 = omega arith in
     rw (le-ltb 6 due d, pick-false, le-ltb b (due * 32) l, pick-false, lt-ltb (b - due * 32) 24 k)
+
+-- a byte fits a word
+pub byte-fits : (s : List ℕ) (i : ℕ) → ((k : ℕ) → Fits w8 (getD s k 0)) → Fits w64 (getD s i 0)
+byte-fits s i each = omega (arith, each i)
+
+-- a string's head in two bytes: 120, and a length from 24 on
+module _ (s : List ℕ) (at : ℕ) (b : getD s at 0 ≡ 120) (h : at + 1 < length s) (l : 24 ≤ getD s (at + 1) 0) where
+  pub head-two : readHead s at ≡ ok (record { major = 3; argument = getD s (at + 1) 0 }) (at + 1 + 1)
+  unfolding readHead headWith wideHead longHead settled be1 pick
+  head-two = rw (lt-leb (length s) at (omega arith), b, le-ltb (length s - at - 1) 1 (omega arith), le-ltb (getD s (at + 1) 0) 24 l)
+
+  pub kind-two : Got (getD s (at + 1) 0) (record { at = at + 1 + 1 }) ≡ answer (readKind 3 s at)
+  unfolding readKind
+  kind-two = rw (head-two, bind-ok, pick-true, answer-ok)
 
 -- the two bytes that the test lets through
 record TwoBytes (b case : ℕ) : Type 0 where

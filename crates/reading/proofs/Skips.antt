@@ -26,7 +26,7 @@ use Rattle.reading.specs.declared.step.Step.the-variants as step
 use Rattle.reading.proofs.Rules.{pick-true, pick-false, bind-ok, bind-out}
 use Rattle.reading.proofs.Gives.{Gives, gives-ok, gives-refused, gives-pick, gives-bind, head-spans, kind-fits}
 use Rattle.reading.proofs.Items.{items-room}
-use Rattle.reading.proofs.Short.{kind-short}
+use Rattle.reading.proofs.Short.{kind-short, kind-two}
 use Rattle.reading.proofs.Answers.{num, out, hd, hd-out, answer-ok, answer-out, stands-ok, stands-out}
 
 -- after one head
@@ -164,3 +164,7 @@ module _ (s : List ℕ) (at : ℕ) {a : Answer} (e : a ≡ answer (readKind 3 s 
 module _ (s : List ℕ) (at : ℕ) (h : at < length s) {r : Bool} (e : r ≡ oneByte 3 (getD s at 0)) (q : r ≡ true) where
   pub span-one : getD s at 0 % 32 < length s - at → take (at + 1 + getD s at 0 % 32 - (at + 1)) (drop (at + 1) s) ≡ textAt s at
   span-one m = span-whole s at (kind-short s 3 at h e q) refl (omega arith)
+
+-- and where it is two bytes
+pub span-two : (s : List ℕ) (at : ℕ) → getD s at 0 ≡ 120 → 24 ≤ getD s (at + 1) 0 → getD s (at + 1) 0 < length s - (at + 1) → take (at + 1 + 1 + getD s (at + 1) 0 - (at + 1 + 1)) (drop (at + 1 + 1) s) ≡ textAt s at
+span-two s at b l m = span-whole s at (kind-two s at b (omega arith) l) refl (omega arith)

@@ -13,7 +13,7 @@ ghost use Rattle.reading.specs.Skip.{skipBody, skipHead, skipItems, text
 ghost use Rattle.reading.specs.Link.{answer, stands};
 ghost use Rattle.reading.specs.Short.{Passed};
 
-// Past an item whose head is one byte: how many items are then left; or it has another head, or its bytes are not there.
+// Past an item whose head is one byte, or a string's two: how many items are then left; or it has another head, or its bytes are not there.
 enum Short {
     Past(u64, Cursor),
     Longer,
@@ -133,7 +133,7 @@ impl Cursor {
         )
     }
 
-    // Past one head of one byte and its string's bytes: how many items are then left, as `skip_head` says.
+    // Past one head of one byte, or a string's of two, and its string's bytes: how many items are then left, as `skip_head` says.
     fn skip_short(self, doc: &[u8], more: u64) -> Short
         requires { ⌜ self .at + 1 + more ≤ length (now doc) ⌝ }
         ensures { λ r. ⌜ Passed more (now (doc .entry)) (self .at) r ⌝ }
@@ -206,7 +206,7 @@ impl Cursor {
         Rest { left, at }
     }
 
-    // Past so many items, whatever they hold. Mostly heads are one byte; `skip_any` goes on from the first that is longer.
+    // Past so many items, whatever they hold. Mostly heads are one byte, or a string's two; `skip_any` goes on from the first that is longer.
     pub fn skip(self, doc: &[u8], count: u64) -> Step
         ensures { λ r. ⌜ r ≡ stands (skipItems count (now (doc .entry)) (self .at)) ⌝ }
     {
