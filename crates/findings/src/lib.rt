@@ -52,6 +52,7 @@ pub use transition::Judged;
 pub use transition::judge_pattern;
 pub use whole::Ready;
 pub use whole::name_module;
+pub use whole::states_of;
 ghost use mathlib.Core.Path.{_≡_};
 ghost use Prim.Native.Nat.{_≤_};
 ghost use Rattle.reading.specs.Document.{readDocument};

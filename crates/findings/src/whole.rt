@@ -165,7 +165,7 @@ fn open_printed(
 }
 
 // The first enum called State of a module.
-fn states_of<'a>(doc: &'a [u8], places: &'a [usize]) -> Found
+pub fn states_of<'a>(doc: &'a [u8], places: &'a [usize]) -> Found
     ensures { λ r. ⌜ FirstStates (now (doc .entry)) (getD (now (places .entry)) 3 0) r ⌝ }
 {
     let enums = word(places, 3);

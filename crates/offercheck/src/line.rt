@@ -4,6 +4,7 @@ use text::Near;
 use text::look_up_finding;
 use text::put_bytes;
 use text::put_finding;
+use text::put_warning;
 ghost use mathlib.Core.Path.{_≡_};
 ghost use Prim.Native.Nat.{_+_, _≤_};
 ghost use lib.ListN.{length, getD};
@@ -66,6 +67,21 @@ fn put_words<'a>(
     let site = word_at(words, 5 * i + 1);
     let first = word_at(words, 5 * i + 2);
     let second = word_at(words, 5 * i + 3);
+    if 20 < site {
+        return put_warning(
+            doc,
+            places,
+            rows,
+            count,
+            known.found,
+            site,
+            first as usize,
+            second as usize,
+            page,
+            at,
+            near,
+        );
+    }
     put_finding(
         doc,
         places,

@@ -6,6 +6,7 @@ use crate::output::print_full;
 use findings::Ready;
 use findings::name_module;
 use findings::open_module;
+use findings::states_of;
 use text::Near;
 use text::module_after;
 use text::module_at;
@@ -90,6 +91,31 @@ fn print_run<'a>(
     }
 }
 
+// Fills the tables of names for errors; warnings need none.
+fn name_for<'a>(
+    doc: &'a [u8],
+    warning: bool,
+    places: &'a [usize],
+    table: &mut [usize],
+    enums: &mut [usize],
+    claims: &mut [usize],
+) -> Ready
+    requires { ⌜ 1658 ≤ length (now table) ⌝ }
+    requires { ⌜ length (now enums) ≡ 829 ⌝ }
+    requires { ⌜ length (now claims) ≡ 1020 ⌝ }
+    ensures { λ r. ⌜ r .claims ≤ 1020 ⌝ }
+    ensures { λ _. ⌜ length (now (table .exit)) ≡ length (now (table .entry)) ⌝ }
+    ensures { λ _. ⌜ length (now (claims .exit)) ≡ 1020 ⌝ }
+{
+    if warning {
+        return Ready {
+            found: states_of(doc, places),
+            claims: 0,
+        };
+    }
+    name_module(doc, places, table, enums, claims)
+}
+
 // The same, where the tables of names are yet to be filled.
 fn print_named<'a>(
     doc: &'a [u8],
@@ -117,7 +143,7 @@ fn print_named<'a>(
     ensures { λ r. ⌜ r .at ≤ 0xc000 ⌝ }
     ensures { λ r. ⌜ KeptModule (now (doc .entry)) (r .near) ⌝ }
 {
-    let known = name_module(doc, places, table, enums, claims);
+    let known = name_for(doc, warning, places, table, enums, claims);
     print_run(
         doc,
         words,

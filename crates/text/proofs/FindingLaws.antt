@@ -1,10 +1,11 @@
 -- A message that is put is what the definition says, and the lent bytes keep their length.
-use Prim.Native.Nat.{ℕ, _-_}
+use Prim.Native.Nat.{ℕ, _-_, _≤_}
 use mathlib.Core.Path.{_≡_, refl, sym, ap, subst, _∙_}
 use mathlib.Core.List.{List}
 use mathlib.Core.Option.{Option}
 use lib.ListN.{length, take}
 use lib.Seq.{length-sets}
+use Rattle.typing.specs.declared.table.Found.{Found}
 use Rattle.findings.specs.declared.whole.Ready.{Ready}
 use Rattle.reading.specs.Module.{Module}
 use Rattle.findings.proofs.GroupTables.{front-cut}
@@ -12,8 +13,9 @@ use Rattle.text.specs.Put.{Put}
 use Rattle.findings.specs.Scene.{Scene}
 use Rattle.text.specs.Message.{Saying, saying, sayingText, setSaid, prioritySaid, pairSaid, claimSaid, eventSaid, varSaid}
 use Rattle.text.specs.Said.{sayingOf}
-use Rattle.text.specs.Says.{WithRows, WithClaims, Named, Says, PutsSaid, PutsFinding}
+use Rattle.text.specs.Says.{WithRows, WithClaims, Warned, Named, Says, SaysWarning, PutsSaid, PutsFinding}
 use Rattle.text.specs.declared.said.Said.{Said}
+use Rattle.text.proofs.SayLaws.{warned, with-rows}
 
 pub finding-put : (H : Module → Type 0) (s : List ℕ) (site i j : ℕ) {x : Said} {o : List ℕ} {at r : ℕ} {o′ : List ℕ} → Says H s (saying site i j) x → Put o at (sayingText site (sayingOf s x)) r o′ → PutsFinding H site i j o at r o′
 finding-put H s site i j {o = o} {at = at} {r = r} {o′ = o′} p q = record {
@@ -27,53 +29,65 @@ put-length {o} {at} {bs} p = ap length (p .bytes) ∙ length-sets o at bs
 pub first-of-two : {site : ℕ} → site ≡ 15 → (site ≡ 15 → ⊥) → site ≡ 24
 first-of-two e n = absurd (n e)
 
--- what X says is the message of site k, and the tables of the module have what X asks for
-module _ (s places rows : List ℕ) (count : ℕ) (known : Ready) (table enums properties : List ℕ) where
-  abbrev Known : Module → Type 0
-  Known = Named s places rows count known table enums properties
+-- what X says is the message of site k, and what is known of the module has what X asks for
+finding-of : (K H : Module → Type 0) (s : List ℕ) (site i j : ℕ) {o : List ℕ} {at r : ℕ} {o′ : List ℕ} (X : Module → Option Saying) (k : ℕ) → ((m : Module) → K m → H m) → ((m : Module) → saying k i j m ≡ X m) → PutsSaid (Says H s X) s k o at r o′ → site ≡ k → PutsFinding K site i j o at r o′
+finding-of K H s site i j {o} {at} {r} {o′} X k f x p e =
+    subst (λ (z : ℕ). PutsFinding K z i j o at r o′) (sym e)
+    (finding-put K s k i j (record { of = λ m h. p .says .of m (f m h) ∙ sym (x m) }) (p .put))
 
-  with-rows : (m : Module) → Known m → WithRows s places rows count m
-  with-rows m h = (h .scene, (h .rows-are, h .count-is))
+module _ (s places rows : List ℕ) (count i j : ℕ) where
+  abbrev Row : Module → Type 0
+  Row = WithRows s places rows count
 
-  module _ (site i j : ℕ) {o : List ℕ} {at r : ℕ} {o′ : List ℕ} where
-    finding-of : (H : Module → Type 0) (X : Module → Option Saying) (k : ℕ) → ((m : Module) → Known m → H m) → ((m : Module) → saying k i j m ≡ X m) → PutsSaid (Says H s X) s k o at r o′ → site ≡ k → PutsFinding Known site i j o at r o′
-    finding-of H X k f x p e =
-        subst (λ (z : ℕ). PutsFinding Known z i j o at r o′) (sym e)
-        (finding-put Known s k i j (record { of = λ m h. p .says .of m (f m h) ∙ sym (x m) }) (p .put))
+  -- those of two transitions
+  finding-two : (K : Module → Type 0) (site : ℕ) {o : List ℕ} {at r : ℕ} {o′ : List ℕ} (k : ℕ) → ((m : Module) → K m → Row m) → ((m : Module) → saying k i j m ≡ pairSaid i j m) → PutsSaid (Says Row s (pairSaid i j)) s site o at r o′ → site ≡ k → PutsFinding K site i j o at r o′
+  finding-two K site {o} {at} {r} {o′} k f x p e = finding-of K Row s site i j (pairSaid i j) k f x (subst (λ (z : ℕ). PutsSaid (Says Row s (pairSaid i j)) s z o at r o′) e p) e
 
-    pub finding-11 : PutsSaid (Says (WithRows s places rows count) s (setSaid i j)) s 11 o at r o′ → site ≡ 11 → PutsFinding Known site i j o at r o′
-    unfolding saying
-    finding-11 = finding-of (WithRows s places rows count) (setSaid i j) 11 with-rows (λ m. refl)
+  -- warnings
+  module _ (found : Found) where
+    abbrev Warning : Module → Type 0
+    Warning = Warned s places rows count found
 
-    pub finding-14 : PutsSaid (Says (WithRows s places rows count) s (prioritySaid i j)) s 14 o at r o′ → site ≡ 14 → PutsFinding Known site i j o at r o′
-    unfolding saying
-    finding-14 = finding-of (WithRows s places rows count) (prioritySaid i j) 14 with-rows (λ m. refl)
-
-    pub finding-18 : PutsSaid (Says (WithClaims s places (take (known .claims - 0) properties)) s (claimSaid i)) s 18 o at r o′ → site ≡ 18 → PutsFinding Known site i j o at r o′
-    unfolding saying
-    finding-18 p = finding-of (WithClaims s places (take (known .claims) properties)) (claimSaid i) 18 (λ m h. (h .scene, h .claims-are)) (λ m. refl) (rw (sym (front-cut properties (known .claims))) p)
-
-    pub finding-22 : PutsSaid (Says (Scene s places) s (eventSaid i j)) s 22 o at r o′ → site ≡ 22 → PutsFinding Known site i j o at r o′
-    unfolding saying
-    finding-22 = finding-of (Scene s places) (eventSaid i j) 22 (λ m h. h .scene) (λ m. refl)
-
-    pub finding-23 : PutsSaid (Says (Scene s places) s (varSaid i)) s 23 o at r o′ → site ≡ 23 → PutsFinding Known site i j o at r o′
-    unfolding saying
-    finding-23 = finding-of (Scene s places) (varSaid i) 23 (λ m h. h .scene) (λ m. refl)
-
-    -- those of two transitions
-    module _ (p : PutsSaid (Says (WithRows s places rows count) s (pairSaid i j)) s site o at r o′) where
-      finding-two : (k : ℕ) → ((m : Module) → saying k i j m ≡ pairSaid i j m) → site ≡ k → PutsFinding Known site i j o at r o′
-      finding-two k x e =
-          finding-of (WithRows s places rows count) (pairSaid i j) k with-rows x (subst (λ (z : ℕ). PutsSaid (Says (WithRows s places rows count) s (pairSaid i j)) s z o at r o′) e p) e
-
-      pub finding-15 : site ≡ 15 → PutsFinding Known site i j o at r o′
+    module _ (site : ℕ) {o : List ℕ} {at r : ℕ} {o′ : List ℕ} where
+      pub finding-22 : PutsSaid (Says (Scene s places) s (eventSaid i j)) s 22 o at r o′ → site ≡ 22 → PutsFinding Warning site i j o at r o′
       unfolding saying
-      finding-15 = finding-two 15 (λ m. refl)
+      finding-22 = finding-of Warning (Scene s places) s site i j (eventSaid i j) 22 (λ m h. h .scene) (λ m. refl)
 
-      pub finding-24 : site ≡ 24 → PutsFinding Known site i j o at r o′
+      pub finding-23 : PutsSaid (Says (Scene s places) s (varSaid i)) s 23 o at r o′ → site ≡ 23 → PutsFinding Warning site i j o at r o′
       unfolding saying
-      finding-24 = finding-two 24 (λ m. refl)
+      finding-23 = finding-of Warning (Scene s places) s site i j (varSaid i) 23 (λ m h. h .scene) (λ m. refl)
+
+      pub finding-24 : PutsSaid (Says Row s (pairSaid i j)) s site o at r o′ → site ≡ 24 → PutsFinding Warning site i j o at r o′
+      unfolding saying
+      finding-24 = finding-two Warning site 24 (λ m h. with-rows h) (λ m. refl)
+
+      pub warning-put : {x : Said} → 21 ≤ site → SaysWarning Warning s site i j x → Put o at (sayingText site (sayingOf s x)) r o′ → PutsFinding Warning site i j o at r o′
+      warning-put l p = finding-put Warning s site i j (p .of l)
+
+  -- any finding
+  module _ (known : Ready) (table enums properties : List ℕ) where
+    abbrev Known : Module → Type 0
+    Known = Named s places rows count known table enums properties
+
+    module _ (site : ℕ) {o : List ℕ} {at r : ℕ} {o′ : List ℕ} where
+      pub finding-11 : PutsSaid (Says Row s (setSaid i j)) s 11 o at r o′ → site ≡ 11 → PutsFinding Known site i j o at r o′
+      unfolding saying
+      finding-11 = finding-of Known Row s site i j (setSaid i j) 11 (λ m h. with-rows (warned h)) (λ m. refl)
+
+      pub finding-14 : PutsSaid (Says Row s (prioritySaid i j)) s 14 o at r o′ → site ≡ 14 → PutsFinding Known site i j o at r o′
+      unfolding saying
+      finding-14 = finding-of Known Row s site i j (prioritySaid i j) 14 (λ m h. with-rows (warned h)) (λ m. refl)
+
+      pub finding-15 : PutsSaid (Says Row s (pairSaid i j)) s site o at r o′ → site ≡ 15 → PutsFinding Known site i j o at r o′
+      unfolding saying
+      finding-15 = finding-two Known site 15 (λ m h. with-rows (warned h)) (λ m. refl)
+
+      pub finding-18 : PutsSaid (Says (WithClaims s places (take (known .claims - 0) properties)) s (claimSaid i)) s 18 o at r o′ → site ≡ 18 → PutsFinding Known site i j o at r o′
+      unfolding saying
+      finding-18 p = finding-of Known (WithClaims s places (take (known .claims) properties)) s site i j (claimSaid i) 18 (λ m h. (h .scene, h .claims-are)) (λ m. refl) (rw (sym (front-cut properties (known .claims))) p)
+
+      pub finding-warning : PutsFinding (Warned s places rows count (known .found)) site i j o at r o′ → PutsFinding Known site i j o at r o′
+      finding-warning p = record { of = λ m h. p .of m (warned h) }
 
 pub said-length : {S : Said → Type 0} {s : List ℕ} {site : ℕ} {o : List ℕ} {at r : ℕ} {o′ : List ℕ} → PutsSaid S s site o at r o′ → length o′ ≡ length o
 said-length p = put-length (p .put)

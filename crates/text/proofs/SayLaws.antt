@@ -12,7 +12,7 @@ use Rattle.findings.specs.Scene.{Scene, Rows, RowAt}
 use Rattle.findings.proofs.PlaceLaws.{entry-past, entry-at}
 use Rattle.text.specs.Message.{Saying, saying, sayings, ofGiven, ofEntry, ofModule, initialSaid, versionSaid, initSaid, varSaid, setSaid, errorNextSaid, errorEmitSaid, claimSaid, formulaSaid, variantSaid, eventSaid, prioritySaid, pairSaid, idSaid, clashSaid}
 use Rattle.text.specs.Said.{sayingOf}
-use Rattle.text.specs.Says.{WithNames, WithClaims, WithFormulas, WithStates, WithRows, WithOwn, Tables, Says, SaysState, SaysNext, SaysSet, SaysId, SaysClash, SaysPriority, SaysPair, SaysJudged, SaysOwn, SaysPlain}
+use Rattle.text.specs.Says.{WithNames, WithClaims, WithFormulas, WithStates, WithRows, WithOwn, Tables, Warned, Says, SaysState, SaysNext, SaysSet, SaysId, SaysClash, SaysPriority, SaysPair, SaysJudged, SaysOwn, SaysPlain, SaysWarning}
 use Rattle.text.specs.declared.said.Said.{Said}
 use Rattle.text.specs.declared.said.Said.the-variants.{Nothing}
 
@@ -75,6 +75,10 @@ module _ (s places rows : List ℕ) (count i : ℕ) where
               in-row s rows (m .transitions) (g .1 .1) _ l (g .1 .0) λ u v. p .of u v m t (g .0) w;
         }
 
+-- what is said at site n
+says-at : (H : Module → Type 0) (s : List ℕ) (site i j : ℕ) {r : Said} (n : ℕ) → site ≡ n → Says H s (saying n i j) r → Says H s (saying site i j) r
+says-at H s site i j {r} n q = subst (λ (k : ℕ). Says H s (saying k i j) r) (sym q)
+
 -- a number from k on is k, or greater
 from : (P : ℕ → Type 0) (k : ℕ) → P k → ((n : ℕ) → suc k ≤ n → P n) → (n : ℕ) → k ≤ n → P n
 from P zero a f zero h = a
@@ -100,7 +104,7 @@ module _ (s places rows : List ℕ) (count : ℕ) (vars enums : List ℕ) (site 
 
   module _ (h : i < count) {r : Said} where
     own-site : (n : ℕ) → site ≡ n → Says Own s (saying n i j) r → SaysOwn Own s site i j r
-    own-site n q p = record { of = λ l u. subst (λ (k : ℕ). Says Own s (saying k i j) r) (sym q) p }
+    own-site n q p = record { of = λ l u. says-at Own s site i j n q p }
 
     pub own-state : site ≡ 6 → SaysState s places rows i r → SaysOwn Own s site i j r
     unfolding saying
@@ -142,30 +146,66 @@ apart-past : (B : Type 0) (a k x : ℕ) → a ≤ x → Apart B a k x → a + k 
 apart-past B a zero x l h = omega arith
 apart-past B a (suc k) x l h = let q = apart-past B a k x l (h .0) in let n = h .1 in omega arith
 
-none-but-0 : (x : ℕ) → x ≤ 5 → Apart (Unit {0}) 1 5 x → x ≡ 0
-none-but-0 zero l h = refl
-none-but-0 (suc x) l h = absurd (let q = apart-past (Unit {0}) 1 5 (suc x) (omega arith) h in omega arith)
+-- all tables have those that a warning needs, and those the places of the transitions' fields
+module _ {s places rows : List ℕ} {count : ℕ} {found : Found} {m : Module} where
+  pub warned : {names enums properties : List ℕ} → Tables s places rows count found names enums properties m → Warned s places rows count found m
+  warned g = record { scene = g .scene; rows-are = g .rows-are; count-is = g .count-is; states-at = g .states-at }
 
--- all other sites
+  pub with-rows : Warned s places rows count found m → WithRows s places rows count m
+  with-rows g = (g .scene, (g .rows-are, g .count-is))
+
+-- warnings
+module _ (s places rows : List ℕ) (count : ℕ) (found : Found) (site i j : ℕ) where
+  abbrev Warning : Module → Type 0
+  Warning = Warned s places rows count found
+
+  pub warning-none : Apart (Unit {0}) 21 6 site → SaysWarning Warning s site i j Nothing
+  unfolding saying sayingOf
+  warning-none h = record { of = λ l. record { of = λ m g. sym (List·getD-eq-default (sayings m i j) none (apart-past (Unit {0}) 21 6 site l h)) } }
+
+  module _ {r : Said} where
+    warning-site : (n : ℕ) → site ≡ n → Says Warning s (saying n i j) r → SaysWarning Warning s site i j r
+    warning-site n q p = record { of = λ l. says-at Warning s site i j n q p }
+
+    pub warning-21 : site ≡ 21 → Says (WithStates s places found) s (variantSaid i) r → SaysWarning Warning s site i j r
+    unfolding saying
+    warning-21 q p = warning-site 21 q (record { of = λ m g. p .of m (g .scene, g .states-at) })
+
+    pub warning-22 : site ≡ 22 → Says (Scene s places) s (eventSaid i j) r → SaysWarning Warning s site i j r
+    unfolding saying
+    warning-22 q p = warning-site 22 q (record { of = λ m g. p .of m (g .scene) })
+
+    pub warning-23 : site ≡ 23 → Says (Scene s places) s (varSaid i) r → SaysWarning Warning s site i j r
+    unfolding saying
+    warning-23 q p = warning-site 23 q (record { of = λ m g. p .of m (g .scene) })
+
+    pub warning-24 : site ≡ 24 → Says (WithRows s places rows count) s (pairSaid i j) r → SaysWarning Warning s site i j r
+    unfolding saying
+    warning-24 q p = warning-site 24 q (record { of = λ m g. p .of m (with-rows g) })
+
+    pub warning-25 : site ≡ 25 → Says (WithRows s places rows count) s (idSaid i) r → SaysWarning Warning s site i j r
+    unfolding saying
+    warning-25 q p = warning-site 25 q (record { of = λ m g. p .of m (with-rows g) })
+
+    pub warning-26 : site ≡ 26 → Says (WithRows s places rows count) s (clashSaid i) r → SaysWarning Warning s site i j r
+    unfolding saying
+    warning-26 q p = warning-site 26 q (record { of = λ m g. p .of m (with-rows g) })
+
+-- every site but 6 to 13
 module _ (s places rows : List ℕ) (count : ℕ) (found : Found) (names enums properties : List ℕ) (site i j : ℕ) where
   abbrev All : Module → Type 0
   All = Tables s places rows count found names enums properties
 
-  pub plain-none : Apart (Apart (Unit {0}) 1 5 site) 14 13 site → SaysPlain All s site i j Nothing
+  plain-site : {r : Said} (n : ℕ) → site ≡ n → Says All s (saying n i j) r → SaysPlain All s site i j r
+  plain-site n q p =
+      let x = says-at All s site i j n q p in
+      record { below = λ l. x; above = λ l. x }
+
+  pub plain-0 : site ≡ 0 → SaysPlain All s site i j Nothing
   unfolding saying sayingOf
-  plain-none h = record {
-    below = λ l.
-        let q = none-but-0 site l (apart-before (Apart (Unit {0}) 1 5 site) 14 13 site h) in
-        subst (λ (k : ℕ). Says All s (saying k i j) Nothing) (sym q) (record { of = λ m g. refl });
-    above = λ l. record { of = λ m g. sym (List·getD-eq-default (sayings m i j) none (apart-past (Apart (Unit {0}) 1 5 site) 14 13 site l h)) };
-  }
+  plain-0 q = plain-site 0 q (record { of = λ m g. refl })
 
   module _ {r : Said} where
-    plain-site : (n : ℕ) → site ≡ n → Says All s (saying n i j) r → SaysPlain All s site i j r
-    plain-site n q p =
-        let x = subst (λ (k : ℕ). Says All s (saying k i j) r) (sym q) p in
-        record { below = λ l. x; above = λ l. x }
-
     module _ (p : Says (Scene s places) s ofModule r) where
       pub plain-1 : site ≡ 1 → SaysPlain All s site i j r
       unfolding saying
@@ -189,16 +229,11 @@ module _ (s places rows : List ℕ) (count : ℕ) (found : Found) (names enums p
 
     pub plain-14 : site ≡ 14 → Says (WithRows s places rows count) s (prioritySaid i j) r → SaysPlain All s site i j r
     unfolding saying
-    plain-14 q p = plain-site 14 q (record { of = λ m g. p .of m (g .scene, (g .rows-are, g .count-is)) })
+    plain-14 q p = plain-site 14 q (record { of = λ m g. p .of m (with-rows (warned g)) })
 
-    module _ (p : Says (WithRows s places rows count) s (pairSaid i j) r) where
-      pub plain-15 : site ≡ 15 → SaysPlain All s site i j r
-      unfolding saying
-      plain-15 q = plain-site 15 q (record { of = λ m g. p .of m (g .scene, (g .rows-are, g .count-is)) })
-
-      pub plain-24 : site ≡ 24 → SaysPlain All s site i j r
-      unfolding saying
-      plain-24 q = plain-site 24 q (record { of = λ m g. p .of m (g .scene, (g .rows-are, g .count-is)) })
+    pub plain-15 : site ≡ 15 → Says (WithRows s places rows count) s (pairSaid i j) r → SaysPlain All s site i j r
+    unfolding saying
+    plain-15 q p = plain-site 15 q (record { of = λ m g. p .of m (with-rows (warned g)) })
 
     pub plain-16 : site ≡ 16 → Says (Scene s places) s errorNextSaid r → SaysPlain All s site i j r
     unfolding saying
@@ -221,25 +256,13 @@ module _ (s places rows : List ℕ) (count : ℕ) (found : Found) (names enums p
     unfolding saying
     plain-19 q p = plain-site 19 q (record { of = λ m g. p .of m ((g .scene, g .agree), (g .scene, g .claims-are)) })
 
-    pub plain-21 : site ≡ 21 → Says (WithStates s places found) s (variantSaid i) r → SaysPlain All s site i j r
-    unfolding saying
-    plain-21 q p = plain-site 21 q (record { of = λ m g. p .of m (g .scene, g .states-at) })
-
-    pub plain-22 : site ≡ 22 → Says (Scene s places) s (eventSaid i j) r → SaysPlain All s site i j r
-    unfolding saying
-    plain-22 q p = plain-site 22 q (record { of = λ m g. p .of m (g .scene) })
-
-    pub plain-23 : site ≡ 23 → Says (Scene s places) s (varSaid i) r → SaysPlain All s site i j r
-    unfolding saying
-    plain-23 q p = plain-site 23 q (record { of = λ m g. p .of m (g .scene) })
-
-    pub plain-25 : site ≡ 25 → Says (WithRows s places rows count) s (idSaid i) r → SaysPlain All s site i j r
-    unfolding saying
-    plain-25 q p = plain-site 25 q (record { of = λ m g. p .of m (g .scene, (g .rows-are, g .count-is)) })
-
-    pub plain-26 : site ≡ 26 → Says (WithRows s places rows count) s (clashSaid i) r → SaysPlain All s site i j r
-    unfolding saying
-    plain-26 q p = plain-site 26 q (record { of = λ m g. p .of m (g .scene, (g .rows-are, g .count-is)) })
+    pub plain-warning : Apart (Apart (Unit {0}) 0 6 site) 14 7 site → SaysWarning (Warned s places rows count found) s site i j r → SaysPlain All s site i j r
+    plain-warning h p =
+        let Six : Type 0 = Apart (Unit {0}) 0 6 site in
+        record {
+          below = λ l. absurd (let q = apart-past (Unit {0}) 0 6 site (omega arith) (apart-before Six 14 7 site h) in omega arith);
+          above = λ l. record { of = λ m g. p .of (apart-past Six 14 7 site l h) .of m (warned g) };
+        }
 
 -- every site, by the block of the table that has the variables
 module _ (s places rows : List ℕ) (count : ℕ) (found : Found) (table enums properties : List ℕ) (site i j : ℕ) where
@@ -247,7 +270,7 @@ module _ (s places rows : List ℕ) (count : ℕ) (found : Found) (table enums p
   Whole = Tables s places rows count found (take 829 table) enums properties
 
   pub says-own : {r : Said} → 6 ≤ site → site ≤ 13 → SaysOwn (WithOwn s places rows count (take 829 table) enums) s site i j r → Says Whole s (saying site i j) r
-  says-own l u p = record { of = λ m g. p .of l u .of m ((g .scene, (g .rows-are, g .count-is)), g .agree) }
+  says-own l u p = record { of = λ m g. p .of l u .of m (with-rows (warned g), g .agree) }
 
   module _ {r : Said} (p : SaysPlain Whole s site i j r) where
     pub says-below : site < 6 → Says Whole s (saying site i j) r

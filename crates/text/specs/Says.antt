@@ -177,6 +177,17 @@ pub record Tables (s places rows : List ℕ) (count : ℕ) (found : Found) (name
   pub agree : Agree (envAt s names enums) (forModule m)
   pub claims-are : Claims s properties (claims m)
 
+-- those that a warning needs
+pub record Warned (s places rows : List ℕ) (count : ℕ) (found : Found) (m : Module) : Type 0 where
+  pub scene : Scene s places m
+  pub rows-are : Rows s rows (m .transitions)
+  pub count-is : count ≡ length (m .transitions)
+  pub states-at : StatesAt s found (states m)
+
+-- warnings, which have the sites from 21 on
+pub record SaysWarning (H : Module → Type 0) (s : List ℕ) (site i j : ℕ) (r : Said) : Type 0 where
+  pub of : 21 ≤ site → Says H s (saying site i j) r
+
 -- sites 6 to 13, and the others
 pub record SaysOwn (H : Module → Type 0) (s : List ℕ) (site i j : ℕ) (r : Said) : Type 0 where
   pub of : 6 ≤ site → site ≤ 13 → Says H s (saying site i j) r

@@ -8,6 +8,7 @@ use crate::listed::put_set_at;
 use crate::listed::put_var_at;
 use crate::pieces::put_pair_at;
 use crate::pieces::put_priority_at;
+use crate::say::say_warning;
 use crate::site::put_said;
 use crate::words::say_named;
 use findings::Ready;
@@ -21,7 +22,42 @@ ghost use Prim.Native.Nat.{_+_, _≤_};
 ghost use lib.ListN.{length, take};
 ghost use Rattle.reading.specs.Limits.{maxList};
 ghost use Rattle.text.specs.Near.{Kept};
-ghost use Rattle.text.specs.Says.{Named, PutsFinding};
+ghost use Rattle.text.specs.Says.{Named, Warned, PutsFinding};
+
+// Puts the message of a warning from a place on; the place after it. It needs no table of names.
+pub fn put_warning<'a>(
+    doc: &'a [u8],
+    places: &'a [usize],
+    rows: &'a [usize],
+    count: u8,
+    found: Found,
+    site: u32,
+    i: usize,
+    j: usize,
+    out: &mut [u8],
+    at: usize,
+    near: Near,
+) -> usize
+    requires { ⌜ 21 ≤ site ⌝ }
+    requires { ⌜ Kept maxList (now doc) near ⌝ }
+    requires { ⌜ length (now doc) ≤ 0xffff ⌝ }
+    requires { ⌜ at ≤ 0x1_0000 ⌝ }
+    ensures { λ r. ⌜ PutsFinding (Warned (now (doc .entry)) (now (places .entry)) (now (rows .entry)) count found) site i j (now (out .entry)) at r (now (out .exit)) ⌝ }
+    ensures { λ _. ⌜ length (now (out .exit)) ≡ length (now (out .entry)) ⌝ }
+    ensures { λ r. ⌜ r ≤ at + 0x7b_0000 ⌝ }
+{
+    if site == 22 {
+        return put_event_at(doc, places, i, j, near, out, at);
+    }
+    if site == 23 {
+        return put_var_at(doc, places, i, near, out, at);
+    }
+    if site == 24 {
+        return put_pair_at(doc, places, rows, count, site, i, j, out, at);
+    }
+    let x = say_warning(doc, places, rows, count, found, site, i, j, near);
+    put_said(out, at, doc, site, x)
+}
 
 // Puts the message from a place on; the place after it. Bytes that don't fit are left out.
 pub fn put_finding<'a>(
@@ -57,9 +93,6 @@ pub fn put_finding<'a>(
     if site == 15 {
         return put_pair_at(doc, places, rows, count, site, i, j, out, at);
     }
-    if site == 24 {
-        return put_pair_at(doc, places, rows, count, site, i, j, out, at);
-    }
     if site == 11 {
         return put_set_at(doc, places, rows, count, i, j, near, out, at);
     }
@@ -67,11 +100,9 @@ pub fn put_finding<'a>(
         let b = known.claims;
         return put_claim_at(doc, places, &claims[0..b], i, out, at);
     }
-    if site == 22 {
-        return put_event_at(doc, places, i, j, near, out, at);
-    }
-    if site == 23 {
-        return put_var_at(doc, places, i, near, out, at);
+    if 20 < site {
+        let found = known.found;
+        return put_warning(doc, places, rows, count, found, site, i, j, out, at, near);
     }
     let x = say_named(
         doc,

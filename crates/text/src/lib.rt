@@ -25,6 +25,7 @@ mod words;
 pub use entry::Near;
 pub use finding::look_up_finding;
 pub use finding::put_finding;
+pub use finding::put_warning;
 use findings::Line;
 use findings::finding_at;
 pub use out::put_bytes;

@@ -27,7 +27,7 @@ ghost use lib.ListN.{length, take};
 ghost use Rattle.reading.specs.Limits.{maxList};
 ghost use Rattle.text.specs.Near.{Kept};
 ghost use Rattle.text.specs.Message.{saying, prioritySaid, pairSaid, idSaid, clashSaid};
-ghost use Rattle.text.specs.Says.{WithRows, WithOwn, Tables, SaysOwn, SaysPlain, Says};
+ghost use Rattle.text.specs.Says.{WithRows, WithOwn, Tables, Warned, SaysOwn, SaysPlain, SaysWarning, Says};
 
 // Sites 6 to 13, of transition i.
 pub(crate) fn say_own<'a>(
@@ -132,6 +132,32 @@ pub(crate) fn say_clash_at<'a>(
     say_clash(doc, places, rows, i as u8)
 }
 
+// Warnings: sites 21 to 26. They need no table of names.
+pub(crate) fn say_warning<'a>(
+    doc: &'a [u8],
+    places: &'a [usize],
+    rows: &'a [usize],
+    count: u8,
+    found: Found,
+    site: u32,
+    i: usize,
+    j: usize,
+    near: Near,
+) -> Said
+    requires { ⌜ Kept maxList (now doc) near ⌝ }
+    ensures { λ r. ⌜ SaysWarning (Warned (now (doc .entry)) (now (places .entry)) (now (rows .entry)) count found) (now (doc .entry)) site i j r ⌝ }
+{
+    match site {
+        21 => say_variant(doc, places, found, i, near),
+        22 => say_event(doc, places, i, j, near),
+        23 => say_var(doc, places, i, near),
+        24 => say_pair_at(doc, places, rows, count, i, j),
+        25 => say_id_at(doc, places, rows, count, i),
+        26 => say_clash_at(doc, places, rows, count, i),
+        _ => Said::Nothing,
+    }
+}
+
 // Every site but 6 to 13.
 pub(crate) fn say_plain<'a>(
     doc: &'a [u8],
@@ -151,6 +177,7 @@ pub(crate) fn say_plain<'a>(
     ensures { λ r. ⌜ SaysPlain (Tables (now (doc .entry)) (now (places .entry)) (now (rows .entry)) count found (now (names .entry)) (now (enums .entry)) (now (claims .entry))) (now (doc .entry)) site i j r ⌝ }
 {
     match site {
+        0 => Said::Nothing,
         1 => say_module(doc, places),
         2 => say_initial(doc, places),
         3 => say_module(doc, places),
@@ -163,13 +190,7 @@ pub(crate) fn say_plain<'a>(
         18 => say_claim(doc, places, claims, i),
         19 => say_formula(doc, places, claims, names, enums, i),
         20 => say_claim(doc, places, claims, i),
-        21 => say_variant(doc, places, found, i, near),
-        22 => say_event(doc, places, i, j, near),
-        23 => say_var(doc, places, i, near),
-        24 => say_pair_at(doc, places, rows, count, i, j),
-        25 => say_id_at(doc, places, rows, count, i),
-        26 => say_clash_at(doc, places, rows, count, i),
-        _ => Said::Nothing,
+        _ => say_warning(doc, places, rows, count, found, site, i, j, near),
     }
 }
 

@@ -1,6 +1,6 @@
 -- By site.
 use borrow.Author.Needs.{needs}
-use Rattle.text.proofs.SayLaws.{plain-1, plain-2, plain-3, plain-4, plain-5, plain-14, plain-15, plain-16, plain-17, plain-18, plain-19, plain-20, plain-21, plain-22, plain-23, plain-24, plain-25, plain-26, plain-none}
+use Rattle.text.proofs.SayLaws.{plain-0, plain-1, plain-2, plain-3, plain-4, plain-5, plain-14, plain-15, plain-16, plain-17, plain-18, plain-19, plain-20, plain-warning}
 use Rattle.text.proofs.say.say_plain.Statement.{statement}
 use Rattle.text.proofs.say.say_plain.Tie as tie
 
@@ -21,11 +21,7 @@ say-plain-spec =
     (λ c κs. search needs)
     (λ c κs. search needs)
     (λ c κs. search needs)
-    (λ c κs. search needs)
-    (λ c κs. search needs)
-    (λ c κs. search needs)
-    (λ c κs. search needs)
-    (λ c κs. search needs)
+    (λ c. search plain-0)
     (λ c. search plain-1)
     (λ c. search plain-2)
     (λ c. search plain-3)
@@ -38,10 +34,4 @@ say-plain-spec =
     (λ c. search plain-18)
     (λ c. search plain-19)
     (λ c. search plain-20)
-    (λ c. search plain-21)
-    (λ c. search plain-22)
-    (λ c. search plain-23)
-    (λ c. search plain-24)
-    (λ c. search plain-25)
-    (λ c. search plain-26)
-    (λ c. search plain-none))
+    (λ c. search plain-warning))
