@@ -68,12 +68,13 @@ fn put_words<'a>(
     let first = word_at(words, 5 * i + 2);
     let second = word_at(words, 5 * i + 3);
     if 20 < site {
+        let found = known.found;
         return put_warning(
             doc,
             places,
             rows,
             count,
-            known.found,
+            found,
             site,
             first as usize,
             second as usize,

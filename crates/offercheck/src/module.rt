@@ -100,12 +100,10 @@ fn name_for<'a>(
     enums: &mut [usize],
     claims: &mut [usize],
 ) -> Ready
-    requires { ⌜ 1658 ≤ length (now table) ⌝ }
+    requires { ⌜ 829 ≤ length (now table) ⌝ }
     requires { ⌜ length (now enums) ≡ 829 ⌝ }
     requires { ⌜ length (now claims) ≡ 1020 ⌝ }
     ensures { λ r. ⌜ r .claims ≤ 1020 ⌝ }
-    ensures { λ _. ⌜ length (now (table .exit)) ≡ length (now (table .entry)) ⌝ }
-    ensures { λ _. ⌜ length (now (claims .exit)) ≡ 1020 ⌝ }
 {
     if warning {
         return Ready {
