@@ -155,11 +155,11 @@ pub fn lane_add(doc: &[u8], table: &[usize], k: usize, heads: &mut [u16], links:
     ensures { λ _. ⌜ length (now (links .exit)) ≡ length (now (links .entry)) ⌝ }
 {
     lane_put(doc, table, k, heads, links);
-    if !is_crowded(links, k) {
-        return;
-    }
     let key = heads[1024];
     if 6 < key {
+        return;
+    }
+    if !is_crowded(links, k) {
         return;
     }
     lane_all(doc, table, k + 1, key + 1, heads, links);
