@@ -3,7 +3,7 @@ use Prim.Native.Nat.{ℕ, zero, suc, _+_, _-_, _*_, _/_, _%_, _^_, _<_, _≤_}
 use mathlib.Core.Path.{_≡_, refl, sym, ap, subst, _∙_}
 use mathlib.Core.Logic.{_≢_}
 use mathlib.Core.Bool.{Bool, false}
-use mathlib.Core.List.{List}
+use mathlib.Core.List.{List, [], _∷_}
 use mathlib.Core.Option.{some}
 use native.Mathlib.Omega.{arith}
 use native.Mathlib.Nat.{mul-le-mul}
@@ -11,7 +11,7 @@ use native.Mathlib.Numerals.{add-one}
 use native.Mathlib.Decide.{ℕ-discrete}
 use lib.Dec.{ltb}
 use borrow.Author.Tests.{ltb-true, ltb-false}
-use lib.ListN.{length, drop, getD, set, replicate, length-set, length-replicate, getD-replicate, drop-of-length-le}
+use lib.ListN.{length, drop, getD, set, replicate, length-set, length-replicate, getD-replicate, drop-of-length-le, length-drop}
 use lib.Seq.{drop-cons, getD-set-same, getD-set-other}
 use Rattle.reading.specs.Read.{pick}
 use Rattle.reading.specs.Text.{Name}
@@ -19,26 +19,43 @@ use Rattle.reading.specs.Skip.{textAt}
 use Rattle.reading.proofs.Rules.{by}
 use Rattle.typing.specs.Names.{eqName}
 use Rattle.typing.specs.Table.{findFirst}
-use Rattle.typing.specs.Lanes.{printBy, factor, spread, laneBy, laneOf, Woven, keyOf, Lanes, Cleared, Laned}
+use Rattle.typing.specs.Lanes.{nextPrint, printBy, wordAt, factor, spread, laneBy, laneOf, Woven, keyOf, Lanes, Cleared, Laned}
 use Rattle.typing.proofs.NameLaws.{eqName-eq}
 use Rattle.typing.proofs.TableLaws.{find-miss, find-kept}
 
--- the product of two numbers of 32 bits leaves room for a byte
-module _ {a b : ℕ} (h : a < 2 ^ 32) (l : b < 2 ^ 32) where
-  product-low : a * b ≤ 4294967295 * 4294967295
-  product-low = mul-le-mul {n₂ = 4294967295} {m₂ = 4294967295} (omega arith) (omega arith)
+-- the product of two numbers of 32 bits has 64
+pub product-fits : {a b : ℕ} → a < 2 ^ 32 → b < 2 ^ 32 → a * b < 2 ^ 64
+product-fits {a} {b} h l =
+    let z : a * b ≤ 4294967295 * 4294967295 = mul-le-mul {n₂ = 4294967295} {m₂ = 4294967295} (omega arith) (omega arith) in
+    omega arith
 
-  pub product-fits : a * b < 2 ^ 64
-  product-fits = let z = product-low in omega arith
+-- of less than four bytes each is a step
+print-step : (f p b : ℕ) (bs : List ℕ) → length bs < 3 → printBy f (nextPrint f p b) bs ≡ printBy f p (b ∷ bs)
+unfolding printBy
+print-step f p b [] l = refl
+print-step f p b (x ∷ []) l = refl
+print-step f p b (x ∷ y ∷ []) l = refl
+print-step f p b (x ∷ y ∷ z ∷ bs) l = absurd (omega arith)
 
-  pub product-more : {c : ℕ} → c < 2 ^ 8 → a * b + c < 2 ^ 64
-  product-more m = let z = product-low in omega arith
+-- a byte and then the others
+drop-more : (a : List ℕ) (i j : ℕ) → i < length a → j ≡ i + 1 → drop i a ≡ getD a i 0 ∷ drop j a
+drop-more a i j l q = rw (q, add-one) (drop-cons a i 0 l)
 
--- one byte more
+-- four bytes more, one byte more, and all of them
 module _ (a : List ℕ) (f h i p : ℕ) (e : printBy f p (drop i a) ≡ printBy f h a) where
-  pub print-more : (p′ : ℕ) → i < length a → p′ ≡ (p * f + getD a i 0) % 2 ^ 32 → printBy f p′ (drop (i + 1) a) ≡ printBy f h a
+  pub print-four : (p′ w : ℕ) → 3 < length a - i → w ≡ wordAt a i → p′ ≡ nextPrint f p w → printBy f p′ (drop (i + 4) a) ≡ printBy f h a
   unfolding printBy
-  print-more p′ l q = rw q (rw (drop-cons a i 0 l, ← add-one) at e)
+  print-four p′ w l g q =
+      rw (q, g)
+      (rw (
+        drop-more a i (i + 1) (omega arith) (omega arith),
+        drop-more a (i + 1) (i + 2) (omega arith) (omega arith),
+        drop-more a (i + 2) (i + 3) (omega arith) (omega arith),
+        drop-more a (i + 3) (i + 4) (omega arith) (omega arith),
+      ) at e)
+
+  pub print-one : (p′ : ℕ) → i < length a → length a ≤ i + 3 → p′ ≡ nextPrint f p (getD a i 0) → printBy f p′ (drop (i + 1) a) ≡ printBy f h a
+  print-one p′ l m q = rw q (print-step f p (getD a i 0) (drop (i + 1) a) (simp length-drop (omega arith)) ∙ (rw (drop-more a i (i + 1) l (omega arith)) at e))
 
   pub print-done : length a ≤ i → p ≡ printBy f h a
   unfolding printBy

@@ -5,6 +5,7 @@ use mathlib.Core.Bool.{Bool, true, false}
 use mathlib.Core.List.{List, [], _∷_}
 use mathlib.Core.Option.{Option, some}
 use native.Mathlib.Omega.{arith}
+use native.Mathlib.Nat.{mod-lt}
 use native.Mathlib.Numerals.{add-one}
 use native.Mathlib.Decide.{ℕ-discrete}
 use lib.ListN.{length, getD, set, take, length-set}
@@ -21,7 +22,7 @@ use Rattle.reading.proofs.Rules.{by}
 use Rattle.typing.specs.Names.{eqName}
 use Rattle.typing.specs.Env.{given}
 use Rattle.typing.specs.Table.{afterItem, pairsAt, Filled, findFirst, memberFrom, memberOf, memberAt, variantFound}
-use Rattle.typing.specs.Lanes.{printBy, print}
+use Rattle.typing.specs.Lanes.{nextPrint, printBy, print}
 use Rattle.typing.specs.Segments.{wordIs, among, NonePast, LastOfPrint, segmentHas, variantIn, variantHeld, Under, Segmented, IndexedOne, Indexed}
 use Rattle.typing.specs.Blocks.{blockFind, KeepsEnums, Weaves}
 use Rattle.typing.specs.Entries.{opened}
@@ -157,9 +158,12 @@ module _ (s T : List ℕ) (n : Name) (w : ℕ) where
 
 -- a word made of a name's place and its print is the name's: equal names have equal prints
 print-small : (bs : List ℕ) (h : ℕ) → h < 2 ^ 32 → print h bs < 2 ^ 32
-unfolding printBy
+unfolding printBy nextPrint
 print-small [] h l = l
-print-small (b ∷ bs) h l = print-small bs ((h * 16777619 + b) % 2 ^ 32) (omega arith)
+print-small (a ∷ []) h l = mod-lt _ (omega arith)
+print-small (a ∷ b ∷ []) h l = mod-lt _ (omega arith)
+print-small (a ∷ b ∷ c ∷ []) h l = mod-lt _ (omega arith)
+print-small (a ∷ b ∷ c ∷ d ∷ bs) h l = print-small bs _ (mod-lt _ (omega arith))
 
 none-either : (b : Bool) → pick b false false ≡ false
 unfolding pick

@@ -7,17 +7,28 @@ use lib.ListN.{length, getD}
 use Rattle.reading.specs.Text.{Name}
 use Rattle.reading.specs.Skip.{textAt}
 
--- a number made of bytes by a factor: equal bytes have equal prints
+-- the print after a word more: both halves of a product count, so that every bit of the word does
+unfoldable pub nextPrint : ℕ → ℕ → ℕ → ℕ
+nextPrint f h w = ((h + w) % 2 ^ 32 * f / 2 ^ 32 + (h + w) % 2 ^ 32 * f % 2 ^ 32) % 2 ^ 32
+
+-- a number made of bytes by a factor, four at a time while there are four: equal bytes have equal prints
 unfoldable pub printBy : ℕ → ℕ → List ℕ → ℕ
 printBy f h [] = h
-printBy f h (b ∷ bs) = printBy f ((h * f + b) % 2 ^ 32) bs
+printBy f h (a ∷ []) = nextPrint f h a
+printBy f h (a ∷ b ∷ []) = nextPrint f (nextPrint f h a) b
+printBy f h (a ∷ b ∷ c ∷ []) = nextPrint f (nextPrint f (nextPrint f h a) b) c
+printBy f h (a ∷ b ∷ c ∷ d ∷ bs) = printBy f (nextPrint f h (a + 2 ^ 8 * b + 2 ^ 16 * c + 2 ^ 24 * d)) bs
 
 abbrev pub print : ℕ → List ℕ → ℕ
-print h bs = printBy 16777619 h bs
+print h bs = printBy 2654435769 h bs
+
+-- the four bytes from byte i on as a number, the first of them lowest
+abbrev pub wordAt : List ℕ → ℕ → ℕ
+wordAt s i = getD s i 0 + 2 ^ 8 * getD s (i + 1) 0 + 2 ^ 16 * getD s (i + 2) 0 + 2 ^ 24 * getD s (i + 3) 0
 
 -- the factor of a key; that of key 0 makes the print
 unfoldable pub factor : ℕ → ℕ
-factor key = 16777619 + 50462 * (key % 2 ^ 16)
+factor key = 2654435769 + 24000 * (key % 2 ^ 16)
 
 -- every bit of a print counts in the upper ones
 unfoldable pub spread : ℕ → ℕ

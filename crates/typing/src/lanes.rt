@@ -6,24 +6,39 @@ ghost use mathlib.Core.Path.{_≡_};
 ghost use Prim.Native.Nat.{_+_, _*_, _%_, _^_, _<_, _≤_};
 ghost use lib.ListN.{length};
 ghost use Rattle.typing.specs.Table.{findFirst, found};
-ghost use Rattle.typing.specs.Lanes.{printBy, print, factor, spread, laneBy, Cleared, Lanes};
+ghost use Rattle.typing.specs.Lanes.{nextPrint, printBy, print, wordAt, factor, spread, laneBy, Cleared, Lanes};
 
-// The print after one byte more, by a factor. Factors are large, so that names of a few bytes hardly ever share a print.
-fn next_print(h: u32, b: u8, f: u32) -> u32
-    ensures { λ r. ⌜ r ≡ (h * f + b) % 2 ^ 32 ⌝ }
+// The print after a word more, by a factor.
+fn next_print(h: u32, w: u32, f: u32) -> u32
+    ensures { λ r. ⌜ r ≡ nextPrint f h w ⌝ }
 {
-    let n = (h as u64) * (f as u64) + b as u64;
-    (n % 4294967296) as u32
+    let n = ((h as u64) + (w as u64)) % 4294967296 * (f as u64);
+    ((n / 4294967296 + n % 4294967296) % 4294967296) as u32
+}
+
+// The four bytes from byte i on as a number, the first of them lowest.
+fn four(bytes: &[u8], i: usize) -> u32
+    requires { ⌜ i + 4 ≤ length (now bytes) ⌝ }
+    ensures { λ r. ⌜ r ≡ wordAt (now (bytes .entry)) i ⌝ }
+{
+    let a = (bytes[i] as u32) + (bytes[i + 1] as u32) * 256;
+    let b = (bytes[i + 2] as u32) + (bytes[i + 3] as u32) * 256;
+    a + b * 65536
 }
 
 // The print of bytes after h, by a factor.
 pub(crate) fn print_by(bytes: &[u8], h: u32, f: u32) -> u32
     ensures { λ r. ⌜ r ≡ printBy f h (now (bytes .entry)) ⌝ }
 {
+    let len = bytes.len();
     let mut p = h;
     let mut i: usize = 0;
-    while i < bytes.len() {
-        p = next_print(p, bytes[i], f);
+    while 3 < len - i {
+        p = next_print(p, four(bytes, i), f);
+        i += 4;
+    }
+    while i < len {
+        p = next_print(p, bytes[i] as u32, f);
         i += 1;
     }
     p
@@ -33,14 +48,14 @@ pub(crate) fn print_by(bytes: &[u8], h: u32, f: u32) -> u32
 pub fn print_bytes(bytes: &[u8], h: u32) -> u32
     ensures { λ r. ⌜ r ≡ print h (now (bytes .entry)) ⌝ }
 {
-    print_by(bytes, h, 16777619)
+    print_by(bytes, h, 2654435769)
 }
 
 // The factor of a key. Names that share a lane by one key are on many by another.
 pub(crate) fn factor(key: usize) -> u32
     ensures { λ r. ⌜ r ≡ factor key ⌝ }
 {
-    16777619 + 50462 * ((key % 65536) as u32)
+    2654435769 + 24000 * ((key % 65536) as u32)
 }
 
 // The print with its bits spread.
