@@ -223,7 +223,7 @@ fn replay_with(
 // Judges every step.
 pub(crate) fn replay_steps(doc: &[u8], steps: &[u8], tally: Tally) -> Tally {
     let mut names = [0usize; 1658];
-    let mut enums = [0usize; 829];
+    let mut enums = [0usize; 2365];
     let mut events = [0usize; 512];
     let mut outputs = [0usize; 512];
     replay_with(

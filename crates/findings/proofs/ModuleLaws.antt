@@ -27,7 +27,7 @@ use Rattle.findings.specs.declared.rows.Listed.{Listed}
 use Rattle.findings.proofs.NoteLaws.{note-then, note-as}
 use Rattle.findings.proofs.RowLaws.{moved}
 
-pub names-set : (s places t e c : List ℕ) {p₇ p₃ all p₉ p₁₀ : ℕ} → 829 ≤ length t → length e ≡ 829 → p₇ ≡ getD places 7 0 → Keeps s (pairsAt s p₇) t 0 → p₃ ≡ getD places 3 0 → KeepsEnums s (pairsAt s p₃) e → p₉ ≡ getD places 9 0 → p₁₀ ≡ getD places 10 0 → ClaimsSet s p₉ p₁₀ all c → Names s places all t e c
+pub names-set : (s places t e c : List ℕ) {p₇ p₃ all p₉ p₁₀ : ℕ} → 829 ≤ length t → 829 ≤ length e → p₇ ≡ getD places 7 0 → Keeps s (pairsAt s p₇) t 0 → p₃ ≡ getD places 3 0 → KeepsEnums s (pairsAt s p₃) e → p₉ ≡ getD places 9 0 → p₁₀ ≡ getD places 10 0 → ClaimsSet s p₉ p₁₀ all c → Names s places all t e c
 unfolding claims
 names-set s places t e c h k e₇ f e₃ g e₉ e₁₀ d = record {
   few-claims = d .most;

@@ -95,7 +95,7 @@ pub(crate) fn fill_names(
     claims: &mut [usize],
 ) -> usize
     requires { ⌜ 829 ≤ length (now table) ⌝ }
-    requires { ⌜ length (now enums) ≡ 829 ⌝ }
+    requires { ⌜ 829 ≤ length (now enums) ⌝ }
     requires { ⌜ length (now claims) ≡ 1020 ⌝ }
     ensures { λ r. ⌜ Names (now (doc .entry)) (now (places .entry)) r (now (table .exit)) (now (enums .exit)) (now (claims .exit)) ⌝ }
 {

@@ -187,7 +187,7 @@ pub fn name_module<'a>(
     claims: &mut [usize],
 ) -> Ready
     requires { ⌜ 829 ≤ length (now table) ⌝ }
-    requires { ⌜ length (now enums) ≡ 829 ⌝ }
+    requires { ⌜ 829 ≤ length (now enums) ⌝ }
     requires { ⌜ length (now claims) ≡ 1020 ⌝ }
     ensures { λ r. ⌜ FirstStates (now (doc .entry)) (getD (now (places .entry)) 3 0) (r .found) ⌝ }
     ensures { λ r. ⌜ Names (now (doc .entry)) (now (places .entry)) (r .claims) (now (table .exit)) (now (enums .exit)) (now (claims .exit)) ⌝ }
@@ -221,7 +221,7 @@ fn walk_named<'a>(
 ) -> Totals
     requires { ⌜ 768 ≤ length (now prints) ⌝ }
     requires { ⌜ 1658 ≤ length (now table) ⌝ }
-    requires { ⌜ length (now enums) ≡ 829 ⌝ }
+    requires { ⌜ 829 ≤ length (now enums) ⌝ }
     requires { ⌜ length (now claims) ≡ 1020 ⌝ }
     requires { ⌜ n + 33295864 ≤ 2 ^ 40 ⌝ }
     requires { ⌜ k + 33228540 ≤ 2 ^ 40 ⌝ }
@@ -274,7 +274,7 @@ fn walk_module(
     requires { ⌜ 2040 ≤ length (now rows) ⌝ }
     requires { ⌜ 768 ≤ length (now prints) ⌝ }
     requires { ⌜ 1658 ≤ length (now table) ⌝ }
-    requires { ⌜ length (now enums) ≡ 829 ⌝ }
+    requires { ⌜ 829 ≤ length (now enums) ⌝ }
     requires { ⌜ length (now claims) ≡ 1020 ⌝ }
     requires { ⌜ n + 33295864 ≤ 2 ^ 40 ⌝ }
     requires { ⌜ k + 33228540 ≤ 2 ^ 40 ⌝ }
@@ -328,7 +328,7 @@ fn walk_modules(
     requires { ⌜ 2040 ≤ length (now rows) ⌝ }
     requires { ⌜ 768 ≤ length (now prints) ⌝ }
     requires { ⌜ 1658 ≤ length (now table) ⌝ }
-    requires { ⌜ length (now enums) ≡ 829 ⌝ }
+    requires { ⌜ 829 ≤ length (now enums) ⌝ }
     requires { ⌜ length (now claims) ≡ 1020 ⌝ }
     requires { ⌜ n + 532733824 ≤ 2 ^ 40 ⌝ }
     requires { ⌜ k + 531656640 ≤ 2 ^ 40 ⌝ }
@@ -394,7 +394,7 @@ pub(crate) fn walk_all(
     let mut rows = [0usize; 2040];
     let mut prints = [0u32; 768];
     let mut table = [0usize; 1658];
-    let mut enums = [0usize; 829];
+    let mut enums = [0usize; 2365];
     let mut claims = [0usize; 1020];
     let version = after_head(doc, 0);
     let modules = after(doc, version);

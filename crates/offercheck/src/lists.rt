@@ -27,7 +27,7 @@ fn print_list<'a>(
     requires { ⌜ 1033 ≤ length (now places) ⌝ }
     requires { ⌜ 2040 ≤ length (now rows) ⌝ }
     requires { ⌜ 1658 ≤ length (now table) ⌝ }
-    requires { ⌜ length (now enums) ≡ 829 ⌝ }
+    requires { ⌜ 829 ≤ length (now enums) ⌝ }
     requires { ⌜ length (now claims) ≡ 1020 ⌝ }
     requires { ⌜ at ≤ 0xc000 ⌝ }
     ensures { λ r. ⌜ r ≤ 0xc000 ⌝ }
@@ -70,7 +70,7 @@ pub(crate) fn print_lists<'a>(
     let mut places = [0usize; 1033];
     let mut rows = [0usize; 2040];
     let mut table = [0usize; 1658];
-    let mut enums = [0usize; 829];
+    let mut enums = [0usize; 2365];
     let mut claims = [0usize; 1020];
     let mut page = [0u8; 20480];
     let middle = print_list(

@@ -101,7 +101,7 @@ fn name_for<'a>(
     claims: &mut [usize],
 ) -> Ready
     requires { ⌜ 829 ≤ length (now table) ⌝ }
-    requires { ⌜ length (now enums) ≡ 829 ⌝ }
+    requires { ⌜ 829 ≤ length (now enums) ⌝ }
     requires { ⌜ length (now claims) ≡ 1020 ⌝ }
     ensures { λ r. ⌜ r .claims ≤ 1020 ⌝ }
 {
@@ -135,7 +135,7 @@ fn print_named<'a>(
     requires { ⌜ from .next < all ⌝ }
     requires { ⌜ from .at ≤ 0xc000 ⌝ }
     requires { ⌜ 1658 ≤ length (now table) ⌝ }
-    requires { ⌜ length (now enums) ≡ 829 ⌝ }
+    requires { ⌜ 829 ≤ length (now enums) ⌝ }
     requires { ⌜ length (now claims) ≡ 1020 ⌝ }
     ensures { λ r. ⌜ from .next < r .next ⌝ }
     ensures { λ r. ⌜ r .at ≤ 0xc000 ⌝ }
@@ -184,7 +184,7 @@ fn print_at<'a>(
     requires { ⌜ 1033 ≤ length (now places) ⌝ }
     requires { ⌜ 2040 ≤ length (now rows) ⌝ }
     requires { ⌜ 1658 ≤ length (now table) ⌝ }
-    requires { ⌜ length (now enums) ≡ 829 ⌝ }
+    requires { ⌜ 829 ≤ length (now enums) ⌝ }
     requires { ⌜ length (now claims) ≡ 1020 ⌝ }
     ensures { λ r. ⌜ from .next < r .next ⌝ }
     ensures { λ r. ⌜ r .at ≤ 0xc000 ⌝ }
@@ -234,7 +234,7 @@ pub(crate) fn print_module<'a>(
     requires { ⌜ 1033 ≤ length (now places) ⌝ }
     requires { ⌜ 2040 ≤ length (now rows) ⌝ }
     requires { ⌜ 1658 ≤ length (now table) ⌝ }
-    requires { ⌜ length (now enums) ≡ 829 ⌝ }
+    requires { ⌜ 829 ≤ length (now enums) ⌝ }
     requires { ⌜ length (now claims) ≡ 1020 ⌝ }
     ensures { λ r. ⌜ from .next < r .next ⌝ }
     ensures { λ r. ⌜ r .at ≤ 0xc000 ⌝ }

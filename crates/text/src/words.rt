@@ -79,7 +79,7 @@ pub(crate) fn say_opened(
     requires { ⌜ 1033 ≤ length (now places) ⌝ }
     requires { ⌜ 2040 ≤ length (now rows) ⌝ }
     requires { ⌜ 1658 ≤ length (now table) ⌝ }
-    requires { ⌜ length (now enums) ≡ 829 ⌝ }
+    requires { ⌜ 829 ≤ length (now enums) ⌝ }
     requires { ⌜ length (now claims) ≡ 1020 ⌝ }
     ensures { λ r. ⌜ SaysIn (now (doc .entry)) at site i j r ⌝ }
 {
@@ -108,7 +108,7 @@ pub(crate) fn say_in(doc: &[u8], at: usize, site: u32, i: usize, j: usize) -> Sa
     let mut places = [0usize; 1033];
     let mut rows = [0usize; 2040];
     let mut table = [0usize; 1658];
-    let mut enums = [0usize; 829];
+    let mut enums = [0usize; 2365];
     let mut claims = [0usize; 1020];
     say_opened(
         doc,

@@ -20,7 +20,7 @@ use Rattle.typing.specs.Names.{eqName}
 use Rattle.typing.specs.Causes.{firstOf}
 use Rattle.typing.specs.Table.{pairsOf, pairsAt, Filled, findFirst, found}
 use Rattle.typing.specs.Lanes.{printBy, print, factor, spread}
-use Rattle.typing.specs.Blocks.{nameIn, underIn, headIn, linkIn, keyIn, blockLane, laneIn, BlockWoven, alongLane, blockFind, findBlocks, findIn, Keeps, Weaves, Clears}
+use Rattle.typing.specs.Blocks.{nameIn, underIn, headIn, linkIn, keyIn, blockLane, laneIn, BlockWoven, alongLane, blockFind, findBlocks, findIn, enumFind, Keeps, Weaves, Clears}
 use Rattle.typing.specs.declared.table.Found.{Found}
 use Rattle.typing.specs.declared.table.Found.the-variants.{At, Nothing}
 use Rattle.typing.proofs.TableLaws.{pairs-length, first-none, first-hit, first-miss}
@@ -289,7 +289,7 @@ module _ (s : List ℕ) (n : Name) (T T′ : List ℕ) (o : ℕ) (g : (j : ℕ) 
 pub keeps-taken : (s pairs T : List ℕ) (o m : ℕ) → o + 829 ≤ m → Keeps s pairs T o → Keeps s pairs (take m T) o
 keeps-taken s pairs T o m h k = record { finds = λ n. block-kept s n T (take m T) o (λ j a. getD-take m T j 0 (omega arith)) ∙ k .finds n }
 
--- tables of one block and of two
+-- tables of one block and of two, and of enums
 module _ (s : List ℕ) (n : Name) (T : List ℕ) where
   pub one-block : length T ≡ 829 → findIn s n T ≡ blockFind s n T 0
   unfolding findIn findBlocks
@@ -298,3 +298,14 @@ module _ (s : List ℕ) (n : Name) (T : List ℕ) where
   pub two-blocks : length T ≡ 1658 → findIn s n T ≡ firstOf (blockFind s n T 829) (blockFind s n T 0)
   unfolding findIn findBlocks
   two-blocks l = let h : length T / 829 ≡ 2 = omega arith in ap (λ (b : ℕ). findBlocks b s n T) h ∙ ap (firstOf (blockFind s n T 829)) (first-none (blockFind s n T 0))
+
+  pub enum-short : length T < 829 → Nothing ≡ found (enumFind s n T)
+  unfolding enumFind found pick
+  enum-short l = rw (lt-ltb (length T) 829 l)
+
+  pub enum-block : 829 ≤ length T → enumFind s n T ≡ blockFind s n T 0
+  unfolding enumFind pick
+  enum-block l = rw (le-ltb (length T) 829 l)
+
+  pub enum-in-block : {f : Found} → 829 ≤ length T → f ≡ found (blockFind s n T 0) → f ≡ found (enumFind s n T)
+  enum-in-block l e = e ∙ ap found (sym (enum-block l))

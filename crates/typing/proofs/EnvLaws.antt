@@ -1,5 +1,5 @@
 -- The tables of a module's variables and enums mean what its declarations mean.
-use Prim.Native.Nat.{ℕ, zero, suc, _+_, _*_, _/_}
+use Prim.Native.Nat.{ℕ, zero, suc, _+_, _*_, _/_, _≤_}
 use mathlib.Core.Path.{_≡_, refl, sym, ap, _∙_}
 use mathlib.Core.Bool.{Bool, true, false}
 use mathlib.Core.List.{List, [], _∷_}
@@ -36,7 +36,7 @@ use Rattle.typing.specs.Blocks.{blockFind, Keeps, KeepsEnums, envAt}
 use Rattle.typing.specs.First.{enumName}
 use Rattle.typing.specs.Blames.{Bound, none-bound, more-bound}
 use Rattle.typing.proofs.TableLaws.{pairs-length}
-use Rattle.typing.proofs.BlockLaws.{one-block, two-blocks, block-kept}
+use Rattle.typing.proofs.BlockLaws.{enum-block, one-block, two-blocks, block-kept}
 
 -- an entry, and those after it
 pub record Uncons {A : Type 0} (F : Reader A) (s : List ℕ) (c k : ℕ) (l : List A) (n : ℕ) : Type 0 where
@@ -233,12 +233,12 @@ module _ (s : List ℕ) (B : Bytes s) where
   given-of u (some e) = refl
 
   -- the tables of a module's variables and enums mean what the module declares
-  pub tables-agree : (names known : List ℕ) (vars enums : ℕ) (m : Module) (i j : ℕ) → length names ≡ 829 → length known ≡ 829 → Keeps s (pairsAt s vars) names 0 → KeepsEnums s (pairsAt s enums) known → listOf maxList readVarDecl s vars ≡ ok (m .vars) i → listOf maxList readEnumDecl s enums ≡ ok (m .enums) j → Agree (envAt s names known) (forModule m)
+  pub tables-agree : (names known : List ℕ) (vars enums : ℕ) (m : Module) (i j : ℕ) → length names ≡ 829 → 829 ≤ length known → Keeps s (pairsAt s vars) names 0 → KeepsEnums s (pairsAt s enums) known → listOf maxList readVarDecl s vars ≡ ok (m .vars) i → listOf maxList readEnumDecl s enums ≡ ok (m .enums) j → Agree (envAt s names known) (forModule m)
   unfolding envAt forModule firstOf
   tables-agree names known vars enums m i j k l p q e f = record {
     names = λ w. ap (typeFound s) (one-block s w names k ∙ p .finds w) ∙ vars-are vars w (m .vars) i e;
-    enums = λ w. ap given (one-block s w known l) ∙ q .known w ∙ given-at [] (lastIn s w (pairsAt s enums)) ∙ ap given (enums-hold [] enums w (m .enums) j f) ∙ sym (given-of [] (lastCalled enumName w (m .enums)));
-    variants = λ w u. ap (variantHeld s known u) (one-block s w known l) ∙ q .has w u ∙ found-or u (lastIn s w (pairsAt s enums)) ∙ ap orFalse (enums-hold u enums w (m .enums) j f) ∙ sym (has-or u (lastCalled enumName w (m .enums)));
+    enums = λ w. ap given (enum-block s w known l) ∙ q .known w ∙ given-at [] (lastIn s w (pairsAt s enums)) ∙ ap given (enums-hold [] enums w (m .enums) j f) ∙ sym (given-of [] (lastCalled enumName w (m .enums)));
+    variants = λ w u. ap (variantHeld s known u) (enum-block s w known l) ∙ q .has w u ∙ found-or u (lastIn s w (pairsAt s enums)) ∙ ap orFalse (enums-hold u enums w (m .enums) j f) ∙ sym (has-or u (lastCalled enumName w (m .enums)));
   }
 
 abbrev bindingName : Binding → Name

@@ -38,7 +38,7 @@ use Rattle.typing.specs.Means.{good, tyOf, causeOf, typedOf, outcome}
 use Rattle.typing.specs.Tells.{Ends}
 use Rattle.typing.specs.Table.{placeAfter, afterItem, Past, found, widthType, exprTypeAt, typeFound}
 use Rattle.typing.specs.Segments.{variantIn, variantHeld}
-use Rattle.typing.specs.Blocks.{findIn, envAt}
+use Rattle.typing.specs.Blocks.{findIn, enumFind, envAt}
 use Rattle.typing.specs.Typed.{Resolves}
 use Rattle.typing.specs.declared.ty.Ty.{Ty}
 use Rattle.typing.specs.declared.ty.Ty.the-variants as ty
@@ -63,7 +63,7 @@ found-none (some a) e q = no (cc)
 found-none none e q = refl
 
 module _ (s enums : List ℕ) where
-  module _ (n : Name) {f : Found} (e : f ≡ found (findIn s stateEnum enums)) where
+  module _ (n : Name) {f : Found} (e : f ≡ found (enumFind s stateEnum enums)) where
     pub state-listed : {at : ℕ} {x : Bool} → f ≡ At at → x ≡ variantIn s enums n at → x ≡ stateVariants (envAt s [] enums) n
     unfolding envAt variantHeld
     state-listed q g = rw (found-at _ e q) g
@@ -142,11 +142,11 @@ module _ (s names enums : List ℕ) (at next : ℕ) {x : Bool} {n : Name} (e : x
     name-other r h k = rw (state-word ∙ q, found-none _ search-is h) k
 
 -- a longer path
-module _ (s enums : List ℕ) (at m next : ℕ) {f : Found} {n : Name} (g : f ≡ found (findIn s n enums)) (t : n ≡ textAt s at) where
+module _ (s enums : List ℕ) (at m next : ℕ) {f : Found} {n : Name} (g : f ≡ found (enumFind s n enums)) (t : n ≡ textAt s at) where
   abbrev Longer : Typed → Type 0
   Longer r = typedOf s r ≡ outcome next (resolveVariant (envAt s [] enums) (textAt s at) (textAt s (afterItem s at)) m)
 
-  enum-found : f ≡ found (findIn s (textAt s at) enums)
+  enum-found : f ≡ found (enumFind s (textAt s at) enums)
   enum-found = rw t at g
 
   pub enum-unknown : f ≡ Nothing → Longer (Fails (UnknownEnum at))
@@ -154,11 +154,11 @@ module _ (s enums : List ℕ) (at m next : ℕ) {f : Found} {n : Name} (g : f �
   enum-unknown q = rw (found-none _ enum-found q)
 
   module _ {list v : ℕ} {w : Name} {x : Bool} (q : f ≡ At list) (h : v ≡ afterItem s at) (u : w ≡ textAt s v) (k : x ≡ variantIn s enums w list) where
-    variant-test : variantHeld s enums (textAt s (afterItem s at)) (findIn s (textAt s at) enums) ≡ x
+    variant-test : variantHeld s enums (textAt s (afterItem s at)) (enumFind s (textAt s at) enums) ≡ x
     unfolding variantHeld
     variant-test = rw (found-at _ enum-found q, sym h, sym u) (sym k)
 
-    enum-known : given (findIn s (textAt s at) enums) ≡ true
+    enum-known : given (enumFind s (textAt s at) enums) ≡ true
     unfolding given
     enum-known = rw (found-at _ enum-found q)
 

@@ -1,6 +1,7 @@
 -- Tables of blocks. A block holds up to 255 pairs of places, of a name and of what is declared under it, on 63 lanes by the name's print and the
 -- block's key. It has 829 words: the pairs, then a head for each lane, then the key, then a link for each pair. A head or a link is one more than a
 -- pair's number; a lane ends where there is no such pair. The pairs of a lane are looked through from the last on, and so are the blocks of a table.
+-- A table of enums is one block and other words behind it.
 use Prim.Native.Nat.{ℕ, zero, suc, _+_, _-_, _*_, _/_, _%_, _^_, _<_}
 use mathlib.Core.Path.{_≡_}
 use mathlib.Core.List.{List}
@@ -64,6 +65,10 @@ findBlocks (suc b) s n T = firstOf (blockFind s n T (829 * b)) (findBlocks b s n
 unfoldable pub findIn : List ℕ → Name → List ℕ → Option ℕ
 findIn s n T = findBlocks (length T / 829) s n T
 
+-- in a table of enums: its block, and other words behind it
+unfoldable pub enumFind : List ℕ → Name → List ℕ → Option ℕ
+enumFind s n T = pick (ltb (length T) 829) none (blockFind s n T 0)
+
 -- the block from word o on has the pairs
 pub record Keeps (s pairs T : List ℕ) (o : ℕ) : Type 0 where
   pub finds : (n : Name) → blockFind s n T o ≡ lastIn s n pairs
@@ -85,11 +90,11 @@ pub record Clears (T : List ℕ) (o h : ℕ) (T′ : List ℕ) : Type 0 where
   pub kept : take (o + 510) T′ ≡ take (o + 510) T
   pub empty : (j : ℕ) → j < h → headIn T′ o j ≡ 0
 
--- what names mean by two tables of blocks: names with their types, bindings after variables; enums with their variants
+-- what names mean by two tables, of blocks and of enums: names with their types, bindings after variables; enums with their variants
 unfoldable pub envAt : List ℕ → List ℕ → List ℕ → Env
 envAt s names enums = record {
   bindings = λ n. none;
   vars = λ n. typeFound s (findIn s n names);
-  enums = λ n. given (findIn s n enums);
-  variants = λ e n. variantHeld s enums n (findIn s e enums);
+  enums = λ n. given (enumFind s n enums);
+  variants = λ e n. variantHeld s enums n (enumFind s e enums);
 }

@@ -14,7 +14,7 @@ ghost use Prim.Native.Nat.{_+_, _*_, _/_, _%_, _^_, _<_, _≤_};
 ghost use lib.ListN.{length};
 ghost use Rattle.typing.specs.Table.{found, pairsAt};
 ghost use Rattle.typing.specs.Lanes.{print, spread};
-ghost use Rattle.typing.specs.Blocks.{blockLane, keyIn, BlockWoven, blockFind, findIn, Keeps, Weaves, Clears};
+ghost use Rattle.typing.specs.Blocks.{blockLane, keyIn, BlockWoven, blockFind, findIn, enumFind, Keeps, Weaves, Clears};
 
 // The lane of a print.
 fn print_lane(p: u32) -> usize
@@ -95,6 +95,17 @@ pub fn find<'a>(doc: &'a [u8], table: &'a [usize], name: &'a [u8]) -> Found
         }
     }
     Found::Nothing
+}
+
+// The same in a table of enums, which is a block and other words behind it.
+pub(crate) fn find_enum<'a>(doc: &'a [u8], table: &'a [usize], name: &'a [u8]) -> Found
+    ensures { λ r. ⌜ r ≡ found (enumFind (now (doc .entry)) (now (name .entry)) (now (table .entry))) ⌝ }
+{
+    if table.len() < 829 {
+        return Found::Nothing;
+    }
+    let lane = block_lane(name, table[573]);
+    find_in_block(doc, table, 0, lane, name)
 }
 
 // Empties the lanes of the block from word o on, and gives it a key.

@@ -1,5 +1,6 @@
 // What a path means: its type, or the cause.
 use crate::block::find;
+use crate::block::find_enum;
 use crate::cause::Cause;
 use crate::cause::Typed;
 use crate::names::same;
@@ -30,7 +31,7 @@ ghost use Rattle.typing.specs.Blocks.{envAt};
 pub(crate) fn state_variant<'a>(doc: &'a [u8], enums: &'a [usize], name: &'a [u8]) -> bool
     ensures { λ r. ⌜ r ≡ stateVariants (envAt (now (doc .entry)) [] (now (enums .entry))) (now (name .entry)) ⌝ }
 {
-    let f = find(doc, enums, b"State");
+    let f = find_enum(doc, enums, b"State");
     match f {
         Found::At(list) => has_variant(doc, enums, list, name),
         Found::Nothing => false,
@@ -108,7 +109,7 @@ pub(crate) fn resolve_variant<'a>(
 ) -> Typed
     ensures { λ r. ⌜ typedOf (now (doc .entry)) r ≡ outcome next (resolveVariant (envAt (now (doc .entry)) [] (now (enums .entry))) (textAt (now (doc .entry)) at) (textAt (now (doc .entry)) (afterItem (now (doc .entry)) at)) segments) ⌝ }
 {
-    let f = find(doc, enums, text_at(doc, at));
+    let f = find_enum(doc, enums, text_at(doc, at));
     let Found::At(list) = f else {
         return Typed::Fails(Cause::UnknownEnum(at));
     };
