@@ -20,7 +20,7 @@ printBy f h (a ∷ b ∷ c ∷ []) = nextPrint f (nextPrint f (nextPrint f h a) 
 printBy f h (a ∷ b ∷ c ∷ d ∷ bs) = printBy f (nextPrint f h (a + 2 ^ 8 * b + 2 ^ 16 * c + 2 ^ 24 * d)) bs
 
 abbrev pub print : ℕ → List ℕ → ℕ
-print h bs = printBy 2654435769 h bs
+print h bs = printBy 2654435761 h bs
 
 -- the four bytes from byte i on as a number, the first of them lowest
 abbrev pub wordAt : List ℕ → ℕ → ℕ
@@ -28,7 +28,7 @@ wordAt s i = getD s i 0 + 2 ^ 8 * getD s (i + 1) 0 + 2 ^ 16 * getD s (i + 2) 0 +
 
 -- the factor of a key; that of key 0 makes the print
 unfoldable pub factor : ℕ → ℕ
-factor key = 2654435769 + 24000 * (key % 2 ^ 16)
+factor key = 2654435761 + 24000 * (key % 2 ^ 16)
 
 -- every bit of a print counts in the upper ones
 unfoldable pub spread : ℕ → ℕ

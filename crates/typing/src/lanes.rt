@@ -48,14 +48,14 @@ pub(crate) fn print_by(bytes: &[u8], h: u32, f: u32) -> u32
 pub fn print_bytes(bytes: &[u8], h: u32) -> u32
     ensures { λ r. ⌜ r ≡ print h (now (bytes .entry)) ⌝ }
 {
-    print_by(bytes, h, 2654435769)
+    print_by(bytes, h, 2654435761)
 }
 
 // The factor of a key. Names that share a lane by one key are on many by another.
 pub(crate) fn factor(key: usize) -> u32
     ensures { λ r. ⌜ r ≡ factor key ⌝ }
 {
-    2654435769 + 24000 * ((key % 65536) as u32)
+    2654435761 + 24000 * ((key % 65536) as u32)
 }
 
 // The print with its bits spread.

@@ -2,7 +2,7 @@
 //! as deep as is allowed, one of a growing number of transitions, and one in
 //! which every pair is found.
 
-use crate::crowds::{of_block, of_one_print, of_table};
+use crate::crowds::{mate, of_block, of_mark, of_one_print, of_table};
 use crate::encode::encode;
 use crate::generate::build::*;
 use crate::lang::ir::*;
@@ -104,6 +104,8 @@ pub fn costly() -> Vec<Sample> {
         ("inits", inits()),
         ("variants", variants()),
         ("lengths", lengths()),
+        ("listed", listed()),
+        ("marks", marks()),
         ("states", states()),
         ("crowd", equal_lane()),
         ("touched", touched_lane()),
@@ -111,6 +113,13 @@ pub fn costly() -> Vec<Sample> {
         ("ordered", ordered()),
         ("longest", longest()),
         ("spelled", first_of(longest_names(255), 300)),
+        ("twins", first_of(vec![text("v"); 255], 2_200)),
+        ("mates", mates()),
+        ("outputs", outputs()),
+        ("groups", groups()),
+        ("stranded", stranded()),
+        ("strange", strange()),
+        ("unfit", unfit()),
     ];
     let sample = |(name, ir)| Sample {
         name,
@@ -380,6 +389,84 @@ fn first_of(names: Vec<String>, many: usize) -> Ir {
     }])
 }
 
+/// The same of a variable and 254 others of one name, which the port has on
+/// its lane by the last key, 4,000 times.
+fn mates() -> Ir {
+    let twin = "v";
+    let mut names = vec![mate(twin)];
+    names.resize(255, text(twin));
+    first_of(names, 2_000)
+}
+
+/// 18 transitions that put out the last of 255 units, which has a longer name
+/// than the others, 250 times each.
+fn outputs() -> Ir {
+    emitting(
+        vec![group("O", with_last("u").map(|n| unit(&n)).collect())],
+        "O",
+        "u25499",
+    )
+}
+
+/// The same of the unit of the last of 255 groups.
+fn groups() -> Ir {
+    emitting(
+        with_last("g").map(|n| group(&n, vec![unit("u")])).collect(),
+        "g25499",
+        "u",
+    )
+}
+
+/// 255 names, of which the last is longer than the others.
+fn with_last(start: &str) -> impl Iterator<Item = String> + '_ {
+    (0..255).map(move |k| format!("{start}{k:03}{}", if k == 254 { "99" } else { "" }))
+}
+
+/// 18 transitions that put out one unit 250 times each.
+fn emitting(outputs: Vec<ConstructorGroup>, group: &str, unit: &str) -> Ir {
+    let step = |place: usize| Transition {
+        emits: vec![emit(group, Some(unit), Vec::new()); 250],
+        ..mixed_step(3 * place + 2)
+    };
+    ir(vec![Module {
+        outputs,
+        transitions: (0..18).map(step).collect(),
+        ..mixed("Link", 0, 1)
+    }])
+}
+
+/// 11 transitions with 255 outputs each whose argument is of another type.
+fn unfit() -> Ir {
+    let step = |place: usize| Transition {
+        emits: vec![emit("Out", Some("log"), vec![path(&["armed"])]); 255],
+        ..mixed_step(3 * place + 2)
+    };
+    ir(vec![Module {
+        transitions: (0..11).map(step).collect(),
+        ..mixed("Link", 0, 1)
+    }])
+}
+
+/// 12 modules of 255 states, all but the first of which nothing leads to.
+fn stranded() -> Ir {
+    let names = names("s");
+    let listed: Vec<&str> = names.iter().map(String::as_str).collect();
+    twelve(Module {
+        enums: vec![enum_decl("State", &listed)],
+        initial_state: Some(text("s000")),
+        ..bare("M")
+    })
+}
+
+/// 12 modules of 255 properties of a name that is not declared.
+fn strange() -> Ir {
+    let named = |k: usize| property(&format!("p{k:03}"), holds(path(&["x"])));
+    twelve(Module {
+        properties: (0..255).map(named).collect(),
+        ..bare("M")
+    })
+}
+
 /// 16 transitions that set one of 255 variables 255 times each.
 fn sets() -> Ir {
     let step = |place: usize| Transition {
@@ -458,6 +545,22 @@ fn lengths() -> Ir {
     let longer = |(k, n): (usize, String)| n + &"xx"[..k * k % 7 % 3];
     let all: Vec<String> = names("m").into_iter().enumerate().map(longer).collect();
     one_of(&all, 3, &all[254], 1_300)
+}
+
+/// The same of the last of names of two bytes, in the last of 20 such enums,
+/// 2,600 times.
+fn listed() -> Ir {
+    let letter = |k: usize| char::from(b'a' + k as u8);
+    let name = |k: usize| format!("{}{}", letter(k / 16), letter(k % 16));
+    let all: Vec<String> = (0..255).map(name).collect();
+    one_of(&all, 20, &all[254], 1_300)
+}
+
+/// The same of the first of 255 names that have one mark by the first key,
+/// 3,000 times.
+fn marks() -> Ir {
+    let all = of_mark("m", 255);
+    one_of(&all, 1, &all[0], 1_500)
 }
 
 /// One transition whose guard is so many equalities of a variant of the last
