@@ -155,7 +155,7 @@ module _ (s names : List ℕ) (n : Name) (m : List ℕ) where
 
   -- a variable of another lane
   apart : (key j : ℕ) → (laneOf s names key j ≡ laneBy key n → ⊥) → Turned m j
-  apart key j d = ap (λ (b : Bool). cond b 1 (getD m j 0)) (sym (lane-apart (laneBy key) n (varAt s names j) (λ q. d (sym q))))
+  apart key j d = ap (λ (b : Bool). cond b 1 (getD m j 0)) (sym (lane-apart (laneBy key) n (varAt s names j) (λ q. absurd (d (sym q)))))
 
   module _ {heads links : List ℕ} (w : Lanes s names (length names / 2) heads links) where
     pub touching-start : {h : ℕ} → h ≡ laneBy (keyOf heads) n → Touching heads (getD heads h 0) m

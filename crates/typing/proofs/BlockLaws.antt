@@ -9,7 +9,7 @@ use native.Mathlib.Decide.{ℕ-discrete}
 use lib.ListN.{length, getD, set, take, length-set}
 use lib.Seq.{sets, length-sets, getD-take, getD-set-same, getD-set-other, take-set-le}
 use lib.Dec.{eqb, ltb}
-use borrow.Author.Tests.{eq-eqb, ne-eqb, lt-ltb, le-ltb, ltb-false}
+use borrow.Author.Tests.{eq-eqb, ne-eqb, eqb-false, lt-ltb, le-ltb, ltb-false}
 use Rattle.reading.specs.Read.{Read, ok, refused, pick}
 use Rattle.reading.specs.Limits.{maxList}
 use Rattle.reading.specs.Item.{readCount}
@@ -20,11 +20,12 @@ use Rattle.typing.specs.Names.{eqName}
 use Rattle.typing.specs.Causes.{firstOf}
 use Rattle.typing.specs.Table.{pairsOf, pairsAt, Filled, findFirst, found}
 use Rattle.typing.specs.Lanes.{printBy, print, factor, spread}
-use Rattle.typing.specs.Blocks.{nameIn, underIn, headIn, linkIn, keyIn, blockLane, laneIn, BlockWoven, alongLane, blockFind, findBlocks, findIn, enumFind, Keeps, Weaves, Clears}
+use Rattle.typing.specs.Blocks.{nameIn, underIn, headIn, linkIn, keyIn, blockLane, laneIn, SameName, BlockWoven, linkFrom, alongLane, blockFind, findBlocks, findIn, enumFind, Keeps, Weaves, Clears}
 use Rattle.typing.specs.declared.table.Found.{Found}
 use Rattle.typing.specs.declared.table.Found.the-variants.{At, Nothing}
+use Rattle.typing.proofs.NameLaws.{eqName-eq}
 use Rattle.typing.proofs.TableLaws.{pairs-length, first-none, first-hit, first-miss}
-use Rattle.typing.proofs.LaneLaws.{woven-none, woven-kept, woven-more, find-past}
+use Rattle.typing.proofs.LaneLaws.{Links, woven-none, woven-kept, links-head, links-past, woven-more, lane-apart, find-past}
 
 -- the lane of a name
 pub lane-small : (key : ℕ) (n : Name) → blockLane key n < 63
@@ -139,6 +140,21 @@ weaves-all {s} {T} {T₁} {T₂} {o} {i} {n} c w a b =
     let e : i ≡ n = omega arith in
     record { size = w .size ∙ c .size; kept = w .kept ∙ c .kept; woven = subst (BlockWoven s T₂ o) e (w .woven) }
 
+-- what pair i is linked to: the head of its lane, or what that is linked to
+module _ (s T : List ℕ) (o head i : ℕ) where
+  pub link-none : head ≡ 0 → head ≡ linkFrom s T o head i
+  unfolding linkFrom pick
+  link-none e = rw (eq-eqb head 0 e)
+
+  module _ (d : head ≡ 0 → ⊥) {b : Bool} (e : b ≡ eqName (textAt s (nameIn T o (head - 1))) (textAt s (nameIn T o i))) where
+    pub link-same : b ≡ true → linkIn T o (head - 1) ≡ linkFrom s T o head i
+    unfolding linkFrom pick
+    link-same q = rw (ne-eqb head 0 d, sym e, q)
+
+    pub link-other : b ≡ false → head ≡ linkFrom s T o head i
+    unfolding linkFrom pick
+    link-other q = rw (ne-eqb head 0 d, sym e, q)
+
 -- pair i is put before those of its lane
 module _ (s T : List ℕ) (o i : ℕ) (l : o + 829 ≤ length T) (m : i < 255) (w : BlockWoven s T o i) where
   abbrev c : ℕ
@@ -147,31 +163,52 @@ module _ (s T : List ℕ) (o i : ℕ) (l : o + 829 ≤ length T) (m : i < 255) (
   c-small : c < 63
   c-small = lane-small (keyIn T o) (textAt s (nameIn T o i))
 
+  abbrev link : ℕ
+  link = linkFrom s T o (headIn T o c) i
+
   abbrev linked : List ℕ
-  linked = set T (o + 574 + i) (headIn T o c)
+  linked = set T (o + 574 + i) link
 
   abbrev put : List ℕ
   put = set linked (o + 510 + c) (i + 1)
 
+  links : Links (laneIn s T o) (SameName s T o) i link
+  unfolding linkFrom pick
+  links =
+      by (eqb p 0) (λ q. rw q (links-head w c-small)) (λ q.
+      let d = eqb-false p 0 q in
+      by (eqName x y)
+      (λ r. let z = eqName-eq x y r in rw (q, r) (links-past w c-small (omega arith) z (λ j e. e ∙ z)))
+      (λ r. rw (q, r) (links-head w c-small)))
+    where
+      p : ℕ
+      p = headIn T o c
+
+      x : Name
+      x = textAt s (nameIn T o (p - 1))
+
+      y : Name
+      y = textAt s (nameIn T o i)
+
   linked-size : length linked ≡ length T
-  linked-size = length-set T (o + 574 + i) (headIn T o c)
+  linked-size = length-set T (o + 574 + i) link
 
   put-kept : take (o + 510) put ≡ take (o + 510) T
-  put-kept = take-set-le (o + 510) linked (o + 510 + c) (i + 1) (omega arith) ∙ take-set-le (o + 510) T (o + 574 + i) (headIn T o c) (omega arith)
+  put-kept = take-set-le (o + 510) linked (o + 510 + c) (i + 1) (omega arith) ∙ take-set-le (o + 510) T (o + 574 + i) link (omega arith)
 
   key-same : keyIn put o ≡ keyIn T o
   key-same =
       let z = c-small in
       getD-set-other linked (o + 510 + c) (o + 573) (i + 1) 0 (λ (e : o + 573 ≡ o + 510 + c). omega arith)
-      ∙ getD-set-other T (o + 574 + i) (o + 573) (headIn T o c) 0 (λ (e : o + 573 ≡ o + 574 + i). omega arith)
+      ∙ getD-set-other T (o + 574 + i) (o + 573) link 0 (λ (e : o + 573 ≡ o + 574 + i). omega arith)
 
-  name-same : (j : ℕ) → j < 255 → laneIn s put o j ≡ laneIn s T o j
-  name-same j a = rw (key-same, word-kept T put (o + 510) put-kept (o + 2 * j) (omega arith))
+  name-same : (j : ℕ) → j < 255 → nameIn put o j ≡ nameIn T o j
+  name-same j a = word-kept T put (o + 510) put-kept (o + 2 * j) (omega arith)
 
   head-same : (h : ℕ) → h < 63 → (h ≡ c → ⊥) → headIn put o h ≡ headIn T o h
   head-same h a d =
       getD-set-other linked (o + 510 + c) (o + 510 + h) (i + 1) 0 (λ (e : o + 510 + h ≡ o + 510 + c). d (omega arith))
-      ∙ getD-set-other T (o + 574 + i) (o + 510 + h) (headIn T o c) 0 (λ (e : o + 510 + h ≡ o + 574 + i). omega arith)
+      ∙ getD-set-other T (o + 574 + i) (o + 510 + h) link 0 (λ (e : o + 510 + h ≡ o + 574 + i). omega arith)
 
   link-put : (j : ℕ) → j < 255 → linkIn put o j ≡ linkIn linked o j
   link-put j a = let z = c-small in getD-set-other linked (o + 510 + c) (o + 574 + j) (i + 1) 0 (λ (e : o + 574 + j ≡ o + 510 + c). omega arith)
@@ -184,24 +221,27 @@ module _ (s T : List ℕ) (o i : ℕ) (l : o + 829 ≤ length T) (m : i < 255) (
         (woven-more w c-small
         (getD-set-same linked (o + 510 + c) (i + 1) 0 (let z = linked-size in let y = c-small in omega arith))
         head-same
-        (link-put i m ∙ getD-set-same T (o + 574 + i) (headIn T o c) 0 (omega arith))
-        (λ j a. link-put j (omega arith) ∙ getD-set-other T (o + 574 + i) (o + 574 + j) (headIn T o c) 0 (λ (e : o + 574 + j ≡ o + 574 + i). omega arith)))
-        (λ j a. name-same j (omega arith)) (λ h a. refl) (λ j a. refl);
+        links
+        (link-put i m ∙ getD-set-same T (o + 574 + i) link 0 (omega arith))
+        (λ j a. link-put j (omega arith) ∙ getD-set-other T (o + 574 + i) (o + 574 + j) link 0 (λ (e : o + 574 + j ≡ o + 574 + i). omega arith)))
+        (λ j a. rw (key-same, name-same j (omega arith))) (λ h a. refl) (λ j a. refl)
+        (λ a b x y e. rw (name-same a (omega arith), name-same b (omega arith)) e);
   }
 
-  pub weaves-more : {name : Name} {lane : ℕ} {T₁ T₂ : List ℕ} → name ≡ textAt s (nameIn T o i) → lane ≡ blockLane (keyIn T o) name → T₁ ≡ set T (o + 574 + i) (headIn T o lane) → T₂ ≡ set T₁ (o + 510 + lane) (i + 1) → Weaves s T o (i + 1) T₂
-  weaves-more t e a b = rw (b, a, e, t) weaves-with
+  pub weaves-more : {name : Name} {lane p : ℕ} {T₁ T₂ : List ℕ} → name ≡ textAt s (nameIn T o i) → lane ≡ blockLane (keyIn T o) name → p ≡ linkFrom s T o (headIn T o lane) i → T₁ ≡ set T (o + 574 + i) p → T₂ ≡ set T₁ (o + 510 + lane) (i + 1) → Weaves s T o (i + 1) T₂
+  weaves-more t e r a b = rw (b, a, r, e, t) weaves-with
 
 -- a walk along a name's lane finds what the pairs have under the name
 module _ (s pairs T : List ℕ) (o k : ℕ) (n : Name) (few : k ≤ 255) (same : (j : ℕ) → j < 2 * k → getD T (o + j) 0 ≡ getD pairs j 0) (w : BlockWoven s T o k) where
   abbrev lane : Name → ℕ
   lane x = blockLane (keyIn T o) x
 
-  lane-same : (j : ℕ) → j < k → laneIn s T o j ≡ lane (textAt s (getD pairs (2 * j) 0))
-  lane-same j h = ap (λ (a : ℕ). lane (textAt s a)) (same (2 * j) (omega arith))
-
   under-same : (i : ℕ) → i < k → underIn T o i ≡ getD pairs (2 * i + 1) 0
   under-same i h = ap (λ (a : ℕ). getD T a 0) (let z : o + 2 * i + 1 ≡ o + (2 * i + 1) = omega arith in z) ∙ same (2 * i + 1) (omega arith)
+
+  -- pair j has another name if it has where it is on the name's lane
+  apart : (j : ℕ) → j < k → (laneIn s T o j ≡ lane n → eqName (textAt s (nameIn T o j)) n ≡ false) → eqName (textAt s (getD pairs (2 * j) 0)) n ≡ false
+  apart j h f = rw (← same (2 * j) (omega arith)) (lane-apart lane (textAt s (nameIn T o j)) n f)
 
   along : (f p : ℕ) → p ≤ f → p ≤ k → (0 < p → laneIn s T o (p - 1) ≡ lane n) → alongLane f s n T o p ≡ findFirst s n pairs p
   unfolding alongLane findFirst pick
@@ -212,9 +252,10 @@ module _ (s pairs T : List ℕ) (o k : ℕ) (n : Name) (few : k ≤ 255) (same :
       let m : i < k = omega arith in
       let g = w .link-low i m in
       let o′ = ap (laneIn s T o) (sym z) ∙ on (omega arith) in
-      let v = along f (linkIn T o i) (omega arith) (omega arith) (λ x. w .link-on i m x ∙ o′)
-      ∙ find-past lane s pairs n (linkIn T o i) i g (λ j a b q. w .link-last i j m b a (lane-same j (omega arith) ∙ q ∙ sym o′)) in
-      rw (ne-eqb (suc i) 0 (λ (e : suc i ≡ 0). omega arith), le-ltb 255 (suc i) (omega arith), z, same (2 * i) (omega arith), under-same i m, v)
+      rw (ne-eqb (suc i) 0 (λ (e : suc i ≡ 0). omega arith), le-ltb 255 (suc i) (omega arith), z, ← same (2 * i) (omega arith), under-same i m)
+      (by (eqName (textAt s (nameIn T o i)) n) (λ q. rw q) (λ q. rw q
+      (along f (linkIn T o i) (omega arith) (omega arith) (λ x. w .link-on i m x ∙ o′)
+      ∙ find-past s pairs n (linkIn T o i) i g (λ j a b. apart j (omega arith) (λ r. rw (w .link-last i j m b a (r ∙ sym o′)) q)))))
 
   pub block-finds : blockFind s n T o ≡ findFirst s n pairs k
   unfolding blockFind
@@ -222,7 +263,7 @@ module _ (s pairs T : List ℕ) (o k : ℕ) (n : Name) (few : k ≤ 255) (same :
       let h = lane-small (keyIn T o) n in
       let l = w .head-low (lane n) h in
       along 255 (headIn T o (lane n)) (omega arith) l (w .head-on (lane n) h)
-      ∙ find-past lane s pairs n (headIn T o (lane n)) k l (λ j a b q. w .head-last (lane n) j h b a (lane-same j b ∙ q))
+      ∙ find-past s pairs n (headIn T o (lane n)) k l (λ j a b. apart j b (λ q. absurd (w .head-last (lane n) j h b a q)))
 
 -- the pairs of a woven block
 pub keeps : (s pairs T : List ℕ) {T′ : List ℕ} {o k : ℕ} → k ≤ 255 → length pairs ≡ 2 * k → Weaves s T o k T′ → ((j : ℕ) → j < 2 * k → getD T (o + j) 0 ≡ getD pairs j 0) → Keeps s pairs T′ o

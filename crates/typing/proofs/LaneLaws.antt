@@ -72,7 +72,7 @@ module _ (key : ℕ) (n : Name) where
   lane-is e g h = rw (h, g, e)
 
 -- before the first pair, all lanes are empty
-pub woven-none : {c : ℕ} {lane head link : ℕ → ℕ} → ((h : ℕ) → h < c → head h ≡ 0) → Woven c lane 0 head link
+pub woven-none : {c : ℕ} {lane : ℕ → ℕ} {spared : ℕ → ℕ → Type 0} {head link : ℕ → ℕ} → ((h : ℕ) → h < c → head h ≡ 0) → Woven c lane spared 0 head link
 woven-none g = record {
   head-low = λ h m. let z = g h m in omega arith;
   head-on = λ h m x. let z = g h m in absurd (omega arith);
@@ -82,10 +82,16 @@ woven-none g = record {
   link-last = λ i j m n x y. absurd (omega arith);
 }
 
-module _ {c : ℕ} {lane : ℕ → ℕ} {k : ℕ} {head link : ℕ → ℕ} (w : Woven c lane k head link) where
+-- pair i can have the link l: that leads to an earlier pair of its lane, or to none, and all that it passes is spared
+pub record Links (lane : ℕ → ℕ) (spared : ℕ → ℕ → Type 0) (i l : ℕ) : Type 0 where
+  pub low : l ≤ i
+  pub on : 0 < l → lane (l - 1) ≡ lane i
+  pub last : (j : ℕ) → j < i → l ≤ j → lane j ≡ lane i → spared i j
+
+module _ {c : ℕ} {lane : ℕ → ℕ} {spared : ℕ → ℕ → Type 0} {k : ℕ} {head link : ℕ → ℕ} (w : Woven c lane spared k head link) where
   -- the first k pairs decide
-  pub woven-kept : {lane′ head′ link′ : ℕ → ℕ} → ((j : ℕ) → j < k → lane′ j ≡ lane j) → ((h : ℕ) → h < c → head′ h ≡ head h) → ((i : ℕ) → i < k → link′ i ≡ link i) → Woven c lane′ k head′ link′
-  woven-kept {lane′} {head′} {link′} g a b = record {
+  pub woven-kept : {lane′ : ℕ → ℕ} {spared′ : ℕ → ℕ → Type 0} {head′ link′ : ℕ → ℕ} → ((j : ℕ) → j < k → lane′ j ≡ lane j) → ((h : ℕ) → h < c → head′ h ≡ head h) → ((i : ℕ) → i < k → link′ i ≡ link i) → ((i j : ℕ) → i < k → j < i → spared i j → spared′ i j) → Woven c lane′ spared′ k head′ link′
+  woven-kept {lane′} {spared′} {head′} {link′} g a b f = record {
     head-low = λ h m. let z = w .head-low h m in let y = a h m in omega arith;
     head-on = λ h m x.
         let y = a h m in
@@ -97,25 +103,53 @@ module _ {c : ℕ} {lane : ℕ → ℕ} {k : ℕ} {head link : ℕ → ℕ} (w :
         let y = b i m in
         let z = w .link-low i m in
         ap (λ (p : ℕ). lane′ (p - 1)) y ∙ g (link i - 1) (omega arith) ∙ w .link-on i m (omega arith) ∙ sym (g i m);
-    link-last = λ i j m n x y. let z = b i m in w .link-last i j m n (omega arith) (sym (g j (omega arith)) ∙ y ∙ g i m);
+    link-last = λ i j m n x y. let z = b i m in f i j m n (w .link-last i j m n (omega arith) (sym (g j (omega arith)) ∙ y ∙ g i m));
   }
 
+  links-old : (i : ℕ) → i < k → Links lane spared i (link i)
+  links-old i m = record { low = w .link-low i m; on = w .link-on i m; last = λ j. w .link-last i j m }
+
+  -- pair k can be linked to the head of its lane
+  module _ (small : lane k < c) where
+    pub links-head : Links lane spared k (head (lane k))
+    links-head = record { low = w .head-low (lane k) small; on = w .head-on (lane k) small; last = λ j m x y. absurd (w .head-last (lane k) j small m x y) }
+
+    -- or to what the head is linked to, if the head is spared and so is all that it passes
+    pub links-past : 0 < head (lane k) → spared k (head (lane k) - 1) → ((j : ℕ) → spared (head (lane k) - 1) j → spared k j) → Links lane spared k (link (head (lane k) - 1))
+    links-past u f g = record { low = let z = old .low in let y = before in omega arith; on = λ x. old .on x ∙ lane-same; last = λ j m x y. last-at j m x y (ℕ-discrete j p) }
+      where
+        p : ℕ
+        p = head (lane k) - 1
+
+        before : p < k
+        before = let z = w .head-low (lane k) small in omega arith
+
+        lane-same : lane p ≡ lane k
+        lane-same = w .head-on (lane k) small u
+
+        old : Links lane spared p (link p)
+        old = links-old p before
+
+        last-at : (j : ℕ) → j < k → link p ≤ j → lane j ≡ lane k → Dec (j ≡ p) → spared k j
+        last-at j m x y (yes e) = subst (spared k) (sym e) f
+        last-at j m x y (no d) =
+            by (ltb j p) (λ q. g j (old .last j (ltb-true j p q) x (y ∙ sym lane-same))) (λ q.
+            let z = ltb-false j p q in
+            absurd (w .head-last (lane k) j small m (omega arith) y))
+
   -- pair k is put before those of its lane
-  pub woven-more : {head′ link′ : ℕ → ℕ} → lane k < c → head′ (lane k) ≡ k + 1 → ((h : ℕ) → h < c → h ≢ lane k → head′ h ≡ head h) → link′ k ≡ head (lane k) → ((i : ℕ) → i < k → link′ i ≡ link i) → Woven c lane (k + 1) head′ link′
-  woven-more {head′} {link′} small head-new head-old link-new link-old = record {
+  pub woven-more : {head′ link′ : ℕ → ℕ} {l : ℕ} → lane k < c → head′ (lane k) ≡ k + 1 → ((h : ℕ) → h < c → h ≢ lane k → head′ h ≡ head h) → Links lane spared k l → link′ k ≡ l → ((i : ℕ) → i < k → link′ i ≡ link i) → Woven c lane spared (k + 1) head′ link′
+  woven-more {head′} {link′} {l} small head-new head-old links link-new link-old = record {
     head-low = λ h m. low-at h m (ℕ-discrete h (lane k));
     head-on = λ h m. on-at h m (ℕ-discrete h (lane k));
     head-last = λ h j m n. last-at h j m n (ℕ-discrete h (lane k)) (ℕ-discrete j k);
-    link-low = λ i m. link-low-at i m (ℕ-discrete i k);
-    link-on = λ i m. link-on-at i m (ℕ-discrete i k);
-    link-last = λ i j m n. link-last-at i j m n (ℕ-discrete i k);
+    link-low = λ i m. links-at i m (ℕ-discrete i k) .low;
+    link-on = λ i m. links-at i m (ℕ-discrete i k) .on;
+    link-last = λ i j m. links-at i m (ℕ-discrete i k) .last j;
   }
     where
       head-at : {h : ℕ} → h ≡ lane k → head′ h ≡ k + 1
       head-at e = ap head′ e ∙ head-new
-
-      link-at : {i : ℕ} → i ≡ k → link′ i ≡ head (lane k)
-      link-at e = ap link′ e ∙ link-new
 
       low-at : (h : ℕ) → h < c → Dec (h ≡ lane k) → head′ h ≤ k + 1
       low-at h m (yes e) = let u = head-at e in omega arith
@@ -130,22 +164,9 @@ module _ {c : ℕ} {lane : ℕ → ℕ} {k : ℕ} {head link : ℕ → ℕ} (w :
       last-at h j m n (no d) (yes q) y z = d (sym z ∙ ap lane q)
       last-at h j m n (no d) (no q) y z = w .head-last h j m (omega arith) (rw (head-old h m d) at y) z
 
-      older : {i : ℕ} → i < k + 1 → i ≢ k → i < k
-      older m d = omega arith
-
-      link-low-at : (i : ℕ) → i < k + 1 → Dec (i ≡ k) → link′ i ≤ i
-      link-low-at i m (yes e) = let u = link-at e in let z = w .head-low (lane k) small in omega arith
-      link-low-at i m (no d) = rw (link-old i (older m d)) (w .link-low i (older m d))
-
-      link-on-at : (i : ℕ) → i < k + 1 → Dec (i ≡ k) → 0 < link′ i → lane (link′ i - 1) ≡ lane i
-      link-on-at i m (yes e) x =
-          let u = link-at e in
-          ap (λ (j : ℕ). lane (j - 1)) u ∙ w .head-on (lane k) small (omega arith) ∙ ap lane (sym e)
-      link-on-at i m (no d) x = ap (λ (j : ℕ). lane (j - 1)) (link-old i (older m d)) ∙ w .link-on i (older m d) (rw (link-old i (older m d)) at x)
-
-      link-last-at : (i j : ℕ) → i < k + 1 → j < i → Dec (i ≡ k) → link′ i ≤ j → lane j ≡ lane i → ⊥
-      link-last-at i j m n (yes e) y z = let u = link-at e in w .head-last (lane k) j small (omega arith) (omega arith) (z ∙ ap lane e)
-      link-last-at i j m n (no d) y z = w .link-last i j (older m d) n (rw (link-old i (older m d)) at y) z
+      links-at : (i : ℕ) → i < k + 1 → Dec (i ≡ k) → Links lane spared i (link′ i)
+      links-at i m (yes e) = rw (e, link-new) links
+      links-at i m (no d) = let n : i < k = omega arith in rw (link-old i n) (links-old i n)
 
 -- the same by two lists
 pub cleared-lanes : (s table links : List ℕ) {heads : List ℕ} → Cleared heads → Lanes s table 0 heads links
@@ -184,7 +205,7 @@ module _ {s table table′ : List ℕ} {k : ℕ} {heads links : List ℕ} where
     heads-size = w .heads-size;
     table-room = let z = w .table-room in omega arith;
     links-room = w .links-room;
-    woven = woven-kept (w .woven) (λ j m. ap (λ (a : ℕ). laneBy (keyOf heads) (textAt s a)) (g j m)) (λ h m. refl) (λ i m. refl);
+    woven = woven-kept (w .woven) (λ j m. ap (λ (a : ℕ). laneBy (keyOf heads) (textAt s a)) (g j m)) (λ h m. refl) (λ i m. refl) (λ i j m n x. x);
   }
 
 module _ (s table : List ℕ) {k : ℕ} {heads links : List ℕ} (w : Lanes s table k heads links) where
@@ -207,6 +228,7 @@ module _ (s table : List ℕ) {k : ℕ} {heads links : List ℕ} (w : Lanes s ta
           (woven-more (w .woven) c-small
           (getD-set-same heads c (k + 1) 0 (lane-room c-small))
           (λ h m d. getD-set-other heads c h (k + 1) 0 d)
+          (links-head (w .woven) c-small)
           (getD-set-same links k (getD heads c 0) 0 more)
           (λ i m. getD-set-other links k i (getD heads c 0) 0 (λ (e : i ≡ k). omega arith)));
     }
@@ -258,18 +280,18 @@ module _ {n : ℕ} {s table : List ℕ} {k : ℕ} {heads links : List ℕ} (r : 
   unfolding findFirst
   pair-found w = rw (add-one k, pair-name, pair-value, find-kept s w table (put table k a v) k (words-kept table k a v))
 
--- names of other lanes differ
-pub lane-apart : (lane : Name → ℕ) (x n : Name) → (lane x ≡ lane n → ⊥) → eqName x n ≡ false
-lane-apart lane x n h = by (eqName x n) (λ q. absurd (h (ap lane (eqName-eq x n q)))) (λ q. q)
+-- names differ if those of one lane do
+pub lane-apart : (lane : Name → ℕ) (x n : Name) → (lane x ≡ lane n → eqName x n ≡ false) → eqName x n ≡ false
+lane-apart lane x n h = by (eqName x n) (λ q. h (ap lane (eqName-eq x n q))) (λ q. q)
 
-module _ (lane : Name → ℕ) (s table : List ℕ) (n : Name) (p : ℕ) where
-  pub find-past : (k : ℕ) → p ≤ k → ((j : ℕ) → p ≤ j → j < k → lane (textAt s (getD table (2 * j) 0)) ≡ lane n → ⊥) → findFirst s n table p ≡ findFirst s n table k
+module _ (s table : List ℕ) (n : Name) (p : ℕ) where
+  pub find-past : (k : ℕ) → p ≤ k → ((j : ℕ) → p ≤ j → j < k → eqName (textAt s (getD table (2 * j) 0)) n ≡ false) → findFirst s n table p ≡ findFirst s n table k
   unfolding findFirst pick
   find-past zero h f = let z : p ≡ 0 = omega arith in ap (findFirst s n table) z
   find-past (suc k) h f =
       by (ltb k p) (λ q. let l = ltb-true k p q in let z : p ≡ suc k = omega arith in ap (findFirst s n table) z) (λ q.
       let l = ltb-false k p q in
-      rw (lane-apart lane (textAt s (getD table (2 * k) 0)) n (f k l (omega arith))) (find-past k l (λ j a b. f j a (omega arith))))
+      rw (f k l (omega arith)) (find-past k l (λ j a b. f j a (omega arith))))
 
 -- the walk for a name has come to pair p - 1, which is on its lane, and no later one of the first k has the name
 pub record Walking (s table : List ℕ) (k : ℕ) (heads links : List ℕ) (n : Name) (p : ℕ) : Type 0 where
@@ -284,7 +306,7 @@ module _ (s table : List ℕ) {k : ℕ} {heads links : List ℕ} (w : Lanes s ta
   walk-at {p} {m} l h o f r =
       let y = w .table-room in
       let z = w .links-room in
-      record { low = omega arith; table-room = omega arith; links-room = omega arith; on = o; rest = find-past (laneBy (keyOf heads)) s table n p m l f ∙ r }
+      record { low = omega arith; table-room = omega arith; links-room = omega arith; on = o; rest = find-past s table n p m l (λ j a b. lane-apart (laneBy (keyOf heads)) (textAt s (getD table (2 * j) 0)) n (λ q. absurd (f j a b q))) ∙ r }
 
   pub walk-start : {h : ℕ} → h ≡ laneBy (keyOf heads) n → Walking s table k heads links n (getD heads h 0)
   walk-start {h} e =

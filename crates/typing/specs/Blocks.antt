@@ -1,7 +1,7 @@
 -- Tables of blocks. A block holds up to 255 pairs of places, of a name and of what is declared under it, on 63 lanes by the name's print and the
 -- block's key. It has 829 words: the pairs, then a head for each lane, then the key, then a link for each pair. A head or a link is one more than a
 -- pair's number; a lane ends where there is no such pair. The pairs of a lane are looked through from the last on, and so are the blocks of a table.
--- A table of enums is one block and other words behind it.
+-- A lane may leave out a pair whose name a later pair of the lane has. A table of enums is one block and other words behind it.
 use Prim.Native.Nat.{ℕ, zero, suc, _+_, _-_, _*_, _/_, _%_, _^_, _<_}
 use mathlib.Core.Path.{_≡_}
 use mathlib.Core.List.{List}
@@ -41,9 +41,19 @@ blockLane key n = spread (printBy (factor key) 0 n) / 2 ^ 16 % 63
 abbrev pub laneIn : List ℕ → List ℕ → ℕ → ℕ → ℕ
 laneIn s T o i = blockLane (keyIn T o) (textAt s (nameIn T o i))
 
--- the first k pairs of the block are on their lanes
+-- pair j has the name of pair i
+abbrev pub SameName : List ℕ → List ℕ → ℕ → ℕ → ℕ → Type 0
+SameName s T o i j = textAt s (nameIn T o j) ≡ textAt s (nameIn T o i)
+
+-- the first k pairs of the block are on their lanes, which may leave out those of a later one's name
 abbrev pub BlockWoven : List ℕ → List ℕ → ℕ → ℕ → Type 0
-BlockWoven s T o k = Woven 63 (laneIn s T o) k (headIn T o) (linkIn T o)
+BlockWoven s T o k = Woven 63 (laneIn s T o) (SameName s T o) k (headIn T o) (linkIn T o)
+
+-- what pair i is linked to: the head of its lane, or where that has the same name what the head is linked to
+unfoldable pub linkFrom : List ℕ → List ℕ → ℕ → ℕ → ℕ → ℕ
+linkFrom s T o head i =
+    pick (eqb head 0) head
+    (pick (eqName (textAt s (nameIn T o (head - 1))) (textAt s (nameIn T o i))) (linkIn T o (head - 1)) head)
 
 -- what stands under a name along a lane, from a head or link on, in so many steps at most
 unfoldable pub alongLane : ℕ → List ℕ → Name → List ℕ → ℕ → ℕ → Option ℕ

@@ -1,5 +1,5 @@
 -- Lanes of a table's names, by their prints and a key: a head says where a lane starts, and links lead from a pair to an earlier one, each by one
--- more than its number; 0 ends a lane. No pair of a lane is left out.
+-- more than its number; 0 ends a lane. In a table of 1024 lanes no pair of a lane is left out.
 use Prim.Native.Nat.{ℕ, _+_, _-_, _*_, _/_, _%_, _^_, _<_, _≤_}
 use mathlib.Core.Path.{_≡_}
 use mathlib.Core.List.{List, [], _∷_}
@@ -42,16 +42,17 @@ laneBy key n = spread (printBy (factor key) 0 n) / 2 ^ 22
 abbrev pub laneOf : List ℕ → List ℕ → ℕ → ℕ → ℕ
 laneOf s table key j = laneBy key (textAt s (getD table (2 * j) 0))
 
--- the first k pairs are on their lanes, of which there are c: head and link say where each lane starts and how it goes on
-pub record Woven (c : ℕ) (lane : ℕ → ℕ) (k : ℕ) (head link : ℕ → ℕ) : Type 0 where
+-- the first k pairs are on their lanes, of which there are c: head and link say where each lane starts and how it goes on; behind pair i a lane
+-- leaves out pair j only where that is spared
+pub record Woven (c : ℕ) (lane : ℕ → ℕ) (spared : ℕ → ℕ → Type 0) (k : ℕ) (head link : ℕ → ℕ) : Type 0 where
   pub head-low : (h : ℕ) → h < c → head h ≤ k
   pub head-on : (h : ℕ) → h < c → 0 < head h → lane (head h - 1) ≡ h
   pub head-last : (h j : ℕ) → h < c → j < k → head h ≤ j → lane j ≡ h → ⊥
   pub link-low : (i : ℕ) → i < k → link i ≤ i
   pub link-on : (i : ℕ) → i < k → 0 < link i → lane (link i - 1) ≡ lane i
-  pub link-last : (i j : ℕ) → i < k → j < i → link i ≤ j → lane j ≡ lane i → ⊥
+  pub link-last : (i j : ℕ) → i < k → j < i → link i ≤ j → lane j ≡ lane i → spared i j
 
--- the same by two lists; the key stands behind the heads
+-- the same by two lists, none left out; the key stands behind the heads
 abbrev pub keyOf : List ℕ → ℕ
 keyOf heads = getD heads 1024 0
 
@@ -59,7 +60,7 @@ pub record Lanes (s table : List ℕ) (k : ℕ) (heads links : List ℕ) : Type 
   pub heads-size : length heads ≡ 1025
   pub table-room : 2 * k ≤ length table
   pub links-room : k ≤ length links
-  pub woven : Woven 1024 (laneOf s table (keyOf heads)) k (λ h. getD heads h 0) (λ i. getD links i 0)
+  pub woven : Woven 1024 (laneOf s table (keyOf heads)) (λ i j. ⊥) k (λ h. getD heads h 0) (λ i. getD links i 0)
 
 -- all lanes are empty
 pub record Cleared (heads : List ℕ) : Type 0 where

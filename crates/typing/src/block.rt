@@ -7,6 +7,7 @@ use crate::lanes::print_by;
 use crate::lanes::print_bytes;
 use crate::lanes::spread;
 use crate::names::same;
+use crate::names::same_name;
 use crate::table::Found;
 use reading::text_at;
 ghost use mathlib.Core.Path.{_≡_};
@@ -14,7 +15,7 @@ ghost use Prim.Native.Nat.{_+_, _*_, _/_, _%_, _^_, _<_, _≤_};
 ghost use lib.ListN.{length};
 ghost use Rattle.typing.specs.Table.{found, pairsAt};
 ghost use Rattle.typing.specs.Lanes.{print, spread};
-ghost use Rattle.typing.specs.Blocks.{blockLane, keyIn, BlockWoven, blockFind, findIn, enumFind, Keeps, Weaves, Clears};
+ghost use Rattle.typing.specs.Blocks.{blockLane, keyIn, BlockWoven, linkFrom, blockFind, findIn, enumFind, Keeps, Weaves, Clears};
 
 // The lane of a print.
 fn print_lane(p: u32) -> usize
@@ -121,6 +122,23 @@ fn clear_lanes(table: &mut [usize], o: usize, key: usize)
     table[o + 573] = key;
 }
 
+// What pair i is linked to: the head of its lane, or where that has the same name what the head is linked to.
+fn link_from(doc: &[u8], table: &[usize], o: usize, head: usize, i: usize) -> usize
+    requires { ⌜ o + 829 ≤ length (now table) ⌝ }
+    requires { ⌜ i < 255 ⌝ }
+    requires { ⌜ head ≤ i ⌝ }
+    ensures { λ r. ⌜ r ≡ linkFrom (now (doc .entry)) (now (table .entry)) o head i ⌝ }
+{
+    if head == 0 {
+        return head;
+    }
+    let p = head - 1;
+    if same_name(doc, table[o + 2 * p], table[o + 2 * i]) {
+        return table[o + 574 + p];
+    }
+    head
+}
+
 // Puts pair i of the block from word o on upon its lane by the block's key.
 fn weave_pair(doc: &[u8], table: &mut [usize], o: usize, i: usize)
     requires { ⌜ o + 829 ≤ length (now table) ⌝ }
@@ -129,8 +147,8 @@ fn weave_pair(doc: &[u8], table: &mut [usize], o: usize, i: usize)
     ensures { λ _. ⌜ Weaves (now (doc .entry)) (now (table .entry)) o (i + 1) (now (table .exit)) ⌝ }
 {
     let h = o + 510 + block_lane(text_at(doc, table[o + 2 * i]), table[o + 573]);
-    let head = table[h];
-    store(table, o + 574 + i, head);
+    let link = link_from(doc, table, o, table[h], i);
+    store(table, o + 574 + i, link);
     store(table, h, i + 1);
 }
 

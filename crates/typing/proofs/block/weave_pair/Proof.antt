@@ -5,6 +5,9 @@ use Rattle.typing.proofs.BlockLaws.{weaves-more}
 use Rattle.typing.proofs.block.weave_pair.Statement.{statement}
 use Rattle.typing.proofs.block.weave_pair.Tie as tie
 
+link-from-requires : tie.Need-link-from-requires
+link-from-requires c κs = (omega arith, (omega arith, search (c .before .before .before .before .before .before .before .pre .1 .1 .head-low)))
+
 pub weave-pair-spec : {M : Type 1} → statement M
 weave-pair-spec =
     tie.close
@@ -22,6 +25,7 @@ weave-pair-spec =
     (λ c. omega arith)
     (λ c. omega arith)
     (λ c. omega arith)
+    link-from-requires
     (λ c. omega arith)
     (λ c. omega arith)
     (λ c κs. search needs)
