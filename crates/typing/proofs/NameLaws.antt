@@ -1,5 +1,5 @@
 -- Equality of names is equality, and names of other lengths or other bytes differ.
-use Prim.Native.Nat.{ℕ, _+_, _<_, _≤_}
+use Prim.Native.Nat.{ℕ, _+_, _-_, _*_, _%_, _<_, _≤_}
 use mathlib.Core.Path.{_≡_, refl, ap, sym, _∙_}
 use mathlib.Core.List.{[], _∷_}
 use mathlib.Core.Bool.{Bool, true, false}
@@ -13,6 +13,7 @@ use Rattle.reading.specs.Read.{pick}
 use Rattle.reading.specs.Text.{Name}
 use Rattle.reading.proofs.Rules.{pick-true, pick-false}
 use Rattle.typing.specs.Names.{eqName}
+use Rattle.typing.specs.Lanes.{wordAt}
 
 pub eqName-refl : (a : Name) → eqName a a ≡ true
 unfolding eqName pick
@@ -86,6 +87,37 @@ module _ (a b : Name) (i : ℕ) (q : length a ≡ length b) where
   same-done h r =
       let k : length b ≤ i = omega arith in
       rw (drop-of-length-le a h, drop-of-length-le b k) at r
+
+-- four bytes at once: words are equal only where their bytes are
+low-byte : (x t y u : ℕ) → x < 256 → y < 256 → x + 256 * t ≡ y + 256 * u → x ≡ y
+low-byte x t y u h l e =
+    let m : (x + 256 * t) % 256 ≡ x = omega arith in
+    let n : (y + 256 * u) % 256 ≡ y = omega arith in
+    sym m ∙ ap (λ (z : ℕ). z % 256) e ∙ n
+
+module _ (a b : Name) (i : ℕ) {u v : ℕ} (m : u ≡ wordAt a i) (n : v ≡ wordAt b i) where
+  pub four-differ : (u ≡ v → ⊥) → false ≡ eqName a b
+  four-differ h = sym (eqName-ne a b λ e. h (m ∙ ap (λ (x : Name). wordAt x i) e ∙ sym n))
+
+  pub four-step : ((j : ℕ) → getD a j 0 < 256) → ((j : ℕ) → getD b j 0 < 256) → length a ≡ length b → 3 < length a - i → u ≡ v → eqName (drop i a) (drop i b) ≡ eqName a b → eqName (drop (i + 4) a) (drop (i + 4) b) ≡ eqName a b
+  four-step f g q h e r =
+      let p = byte i (x 1 + 256 * x 2 + 65536 * x 3) (y 1 + 256 * y 2 + 65536 * y 3) (omega (arith, e, m, n)) in
+      let p₁ = byte (i + 1) (x 2 + 256 * x 3) (y 2 + 256 * y 3) (omega (arith, e, m, n, p)) in
+      let p₂ = byte (i + 2) (x 3) (y 3) (omega (arith, e, m, n, p, p₁)) in
+      let p₃ : x 3 ≡ y 3 = omega (arith, e, m, n, p, p₁, p₂) in
+      next (i + 3) (i + 4) (omega arith) p₃ (omega arith) (next (i + 2) (i + 3) (omega arith) p₂ (omega arith) (next (i + 1) (i + 2) (omega arith) p₁ (omega arith) (next i (i + 1) (omega arith) p (omega arith) r)))
+    where
+      x : ℕ → ℕ
+      x k = getD a (i + k) 0
+
+      y : ℕ → ℕ
+      y k = getD b (i + k) 0
+
+      byte : (j s t : ℕ) → getD a j 0 + 256 * s ≡ getD b j 0 + 256 * t → getD a j 0 ≡ getD b j 0
+      byte j s t = low-byte (getD a j 0) s (getD b j 0) t (f j) (g j)
+
+      next : (j k : ℕ) → k ≡ j + 1 → getD a j 0 ≡ getD b j 0 → j < length a → eqName (drop j a) (drop j b) ≡ eqName a b → eqName (drop k a) (drop k b) ≡ eqName a b
+      next j k w p l z = rw w (same-step a b j q l p z)
 
 -- of what is handed out
 pub by-text : {r : Bool} {x : Name} (a b : Name) → r ≡ eqName x b → x ≡ a → r ≡ eqName a b

@@ -17,7 +17,7 @@ fn next_print(h: u32, w: u32, f: u32) -> u32
 }
 
 // The four bytes from byte i on as a number, the first of them lowest.
-fn four(bytes: &[u8], i: usize) -> u32
+pub(crate) fn four(bytes: &[u8], i: usize) -> u32
     requires { ⌜ i + 4 ≤ length (now bytes) ⌝ }
     ensures { λ r. ⌜ r ≡ wordAt (now (bytes .entry)) i ⌝ }
 {

@@ -1,4 +1,5 @@
-// Names that stand in the document, compared by length first and then byte by byte.
+// Names that stand in the document, compared by length first and then by their bytes, four at a time while there are four.
+use crate::lanes::four;
 use reading::text_at;
 ghost use mathlib.Core.Path.{_≡_};
 ghost use Rattle.reading.specs.Skip.{textAt};
@@ -11,8 +12,15 @@ pub fn same<'a>(a: &'a [u8], b: &'a [u8]) -> bool
     if a.len() != b.len() {
         return false;
     }
+    let len = a.len();
     let mut i: usize = 0;
-    while i < a.len() {
+    while 3 < len - i {
+        if four(a, i) != four(b, i) {
+            return false;
+        }
+        i += 4;
+    }
+    while i < len {
         if a[i] != b[i] {
             return false;
         }
