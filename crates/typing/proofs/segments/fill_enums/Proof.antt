@@ -1,4 +1,4 @@
--- The enums are filled in, given their segments, and put on their lanes.
+-- The enums are filled in, put on their lanes, and given their segments.
 use borrow.Author.Needs.{needs}
 use Rattle.typing.proofs.SegmentLaws.{enums-filled, enums-size}
 use Rattle.typing.proofs.segments.fill_enums.Statement.{statement}

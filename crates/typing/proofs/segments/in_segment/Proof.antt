@@ -16,5 +16,5 @@ in-segment-spec =
     (λ c. search segment-wide)
     (λ c κs. search needs)
     (λ c. omega arith)
-    (λ c κs. (omega arith, search needs))
+    (λ c κs. omega arith)
     (λ c. search segment-has))

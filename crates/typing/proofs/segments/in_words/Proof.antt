@@ -1,17 +1,19 @@
--- The words that have the name's print decide, the last of them first.
+-- The words that are left decide; one whose marks have not the name's is passed over.
 use Prim.Native.Nat.{_+_, _≤_}
+use mathlib.Core.Path.{_≡_}
 use native.Mathlib.Omega.{arith}
 use lib.ListN.{length}
 use borrow.Author.Needs.{needs}
-use Rattle.typing.proofs.SegmentLaws.{Among, among-start, among-none, among-hit, among-miss}
+use Rattle.typing.specs.Segments.{among}
+use Rattle.typing.proofs.SegmentLaws.{among-none, among-hit, among-miss, among-unmarked}
 use Rattle.typing.proofs.segments.in_words.Statement.{statement}
 use Rattle.typing.proofs.segments.in_words.Tie as tie
 
 abbrev Inv-loop : tie.InvT-loop
-Inv-loop doc table q many p name left₀ left = (q + left ≤ length table) × Among doc name table q many p left
+Inv-loop doc table q many m name left₀ left = (q + left ≤ length table) × (among left doc name m table q ≡ among many doc name m table q)
 
 abbrev μ-loop : tie.MeasureT-loop
-μ-loop doc table q many p name left₀ left = left
+μ-loop doc table q many m name left₀ left = left
 
 pub in-words-spec : {M : Type 1} → statement M
 in-words-spec =
@@ -19,8 +21,7 @@ in-words-spec =
     (tie.spec
     Inv-loop
     μ-loop
-    (λ c κs. search needs)
-    (λ c. (omega arith, search among-start))
+    (λ c. search needs)
     (λ c. omega arith)
     (λ c. omega arith)
     (λ c. omega arith)
@@ -28,7 +29,8 @@ in-words-spec =
     (λ c κs. search needs)
     (λ c κs. search needs)
     (λ c. search among-hit)
-    (λ c κs. omega arith)
     (λ c. omega arith)
     (λ c. (omega arith, search among-miss))
+    (λ c. omega arith)
+    (λ c. (omega arith, search among-unmarked))
     (λ c. search among-none))

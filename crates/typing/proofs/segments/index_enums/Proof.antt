@@ -19,7 +19,6 @@ index-enums-spec =
     Inv-loop
     μ-loop
     (λ c. search index-long)
-    (λ c. omega arith)
     (λ c. search index-start)
     (λ c κs. (omega arith, (omega arith, (omega arith, omega arith))))
     (λ c. omega arith)
