@@ -171,7 +171,7 @@ fn fill_words(
     true
 }
 
-// Whether one mark is that of more than 12 names in so many words from word q on.
+// Whether in so many words from word q on one mark is that of more than 12 names.
 fn is_worn(table: &[usize], q: usize, many: usize) -> bool
     requires { ⌜ q + many ≤ length (now table) ⌝ }
 {
@@ -193,7 +193,8 @@ fn is_worn(table: &[usize], q: usize, many: usize) -> bool
     false
 }
 
-// The same by the first of 8 keys by which no mark is that of many names, or by the last; that key, if all could be put.
+// Puts so many names from a place on into the words from word q on, by the first of 8 keys by which no mark is that of many, or by the last; that
+// key, if all could be put.
 fn fill_keyed(doc: &[u8], first: usize, many: usize, table: &mut [usize], q: usize) -> Found
     requires { ⌜ many ≤ 255 ⌝ }
     requires { ⌜ q + (many + 5) / 6 ≤ length (now table) ⌝ }
