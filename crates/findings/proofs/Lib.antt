@@ -40,6 +40,7 @@ pub mod ReplyLaws
 pub mod ImpossibleLaws
 pub mod TouchLaws
 pub mod MentionLaws
+pub mod OnceLaws
 pub mod UnusedLaws
 pub mod UseLaws
 pub mod PlaceLaws

@@ -1,11 +1,12 @@
 -- What the walk over mentioned names promises: for whatever reads there, the variables of the names in it are marked.
-use Prim.Native.Nat.{ℕ, _*_, _/_, _<_, _≤_}
+use Prim.Native.Nat.{ℕ, _+_, _*_, _/_, _<_, _≤_}
 use mathlib.Core.Path.{_≡_}
 use mathlib.Core.List.{List, [], _∷_, map}
-use mathlib.Core.Bool.{Bool, true, cond}
-use mathlib.Core.Option.{Option, some}
+use mathlib.Core.Bool.{Bool, true, false, cond}
+use mathlib.Core.Option.{Option, none, some}
 use lib.ListN.{length, getD, getElem?, take}
-use Rattle.reading.specs.Read.{Reader, ok}
+use lib.Dec.{eqb}
+use Rattle.reading.specs.Read.{Reader, ok, pick}
 use Rattle.reading.specs.Limits.{maxList}
 use Rattle.reading.specs.Item.{readCase}
 use Rattle.reading.specs.Text.{Name}
@@ -16,6 +17,9 @@ use Rattle.reading.specs.Transition.{OutputExpr, Assignment, Transition, readTo
 use Rattle.reading.specs.Module.{Module}
 use Rattle.reading.specs.Skip.{textAt}
 use Rattle.typing.specs.Names.{eqName, member}
+use Rattle.typing.specs.Env.{given}
+use Rattle.typing.specs.Table.{findFirst}
+use Rattle.typing.specs.Lanes.{Laned}
 use Rattle.findings.specs.Lists.{each}
 use Rattle.findings.specs.Mentions.{collectNames, emitNames, touched, allTouched}
 use Rattle.findings.specs.Warnings.{unused}
@@ -101,6 +105,32 @@ module _ (s rows names m m′ : List ℕ) where
 
   pub record TouchesAll (places : List ℕ) (count : ℕ) : Type 0 where
     pub of : (x : Module) → Scene s places x → Rows s rows (x .transitions) → count ≡ length (x .transitions) → Touched s names m (allTouched x) m′
+
+-- m names on their lanes, each with its number
+pub record Numbered (s once : List ℕ) (m : ℕ) (heads links : List ℕ) : Type 0 where
+  pub laned : Laned 255 s once m heads links
+  pub number : (j : ℕ) → j < m → getD once (2 * j + 1) 0 ≡ j
+
+-- the name at a place is put after the first m where it is none of them; r is how many there are then
+pub record GathersName (s : List ℕ) (at : ℕ) (once : List ℕ) (m r : ℕ) (once′ heads links : List ℕ) : Type 0 where
+  pub numbered : Numbered s once′ r heads links
+  pub has : (w : Name) → given (findFirst s w once′ r) ≡ pick (eqName (textAt s at) w) true (given (findFirst s w once m))
+
+-- the names of the first k variables of a table are among m names
+pub record Gathered (s names : List ℕ) (k : ℕ) (once : List ℕ) (m : ℕ) (heads links : List ℕ) : Type 0 where
+  pub numbered : Numbered s once m heads links
+  pub has : (j : ℕ) → j < k → given (findFirst s (varAt s names j) once m) ≡ true
+
+-- whether a name that has a number is marked
+unfoldable pub ownMark : List ℕ → Option ℕ → Bool
+ownMark own none = false
+ownMark own (some j) = eqb (getD own j 0) 1
+
+-- the first k variables of a table are marked where their names are, and the others keep their marks
+pub record HandedOn (s names : List ℕ) (k : ℕ) (once : List ℕ) (m : ℕ) (own marks marks′ : List ℕ) : Type 0 where
+  pub size : length marks′ ≡ length marks
+  pub at : (j : ℕ) → j < k → j < length marks → getD marks′ j 0 ≡ cond (ownMark own (findFirst s (varAt s names j) once m)) 1 (getD marks j 0)
+  pub other : (j : ℕ) → k ≤ j → getD marks′ j 0 ≡ getD marks j 0
 
 -- the names of the variables are those of a table
 pub record Vars (s names : List ℕ) (vs : List VarDecl) : Type 0 where

@@ -17,6 +17,7 @@ mod links;
 mod mentions;
 mod module;
 mod on_error;
+mod once;
 mod opening;
 mod order;
 mod output;

@@ -1,6 +1,7 @@
 // Variables that nothing mentions: site 23.
 use crate::lanes::add_all;
 use crate::mentions::touch_all;
+use crate::once::touch_once;
 use crate::rows::word;
 use crate::sheet::emit_if;
 use crate::touch::is_free;
@@ -43,7 +44,8 @@ fn fill_vars(doc: &[u8], at: usize, table: &mut [usize]) -> usize
     fill_table(doc, at, table)
 }
 
-// Marks the variables of a table that are mentioned: they are put on lanes first.
+// Marks the variables of a table that are mentioned: they are put on lanes first. Where a lane is crowded by every key, as it is by many
+// variables of one name, the names are put on lanes of their own, each once.
 fn touch_vars<'a>(
     doc: &'a [u8],
     places: &'a [usize],
@@ -58,7 +60,11 @@ fn touch_vars<'a>(
     let mut heads = [0u16; 1025];
     let mut links = [0u16; 255];
     add_all(doc, names, &mut heads, &mut links);
-    touch_all(doc, places, rows, count, names, &heads, &links, marks);
+    if heads[1024] < 7 {
+        touch_all(doc, places, rows, count, names, &heads, &links, marks);
+        return;
+    }
+    touch_once(doc, places, rows, count, names, marks);
 }
 
 // Marks the variables that are mentioned; how many variables there are.

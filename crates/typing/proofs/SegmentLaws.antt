@@ -6,7 +6,7 @@ use mathlib.Core.List.{List}
 use mathlib.Core.Option.{Option, some}
 use native.Mathlib.Omega.{arith}
 use native.Mathlib.Numerals.{add-one}
-use native.Mathlib.Nat.{pow-suc, pow-le-pow-right}
+use native.Mathlib.Nat.{pow-suc, one-le-pow}
 use native.Mathlib.Decide.{ℕ-discrete}
 use lib.ListN.{length, getD, set, take, length-set}
 use lib.Seq.{sets, length-sets, getD-set-same, getD-set-other, take-set-le, take-take}
@@ -161,12 +161,12 @@ module _ (s T : List ℕ) (n : Name) (w : ℕ) where
   unfolding variantIn pick
   by-segment h l e = rw (le-ltb w 65536 h, le-ltb 65535 (length s) l) e
 
--- a name is found by its mark: equal names have equal marks
 none-either : (b : Bool) → pick b false false ≡ false
 unfolding pick
 none-either true = refl
 none-either false = refl
 
+-- a name is found by its mark: equal names have equal marks
 by-mark : (key : ℕ) (a n : Name) → pick (eqb (markBy key a) (markBy key n)) (eqName a n) false ≡ eqName a n
 unfolding pick
 by-mark key a n =
@@ -188,25 +188,22 @@ packed (suc k) (suc j) key s at n h =
     let d : (markBy key (textAt s at) + 256 * marksFrom j key s (afterItem s at)) / 256 ≡ marksFrom j key s (afterItem s at) = omega arith in
     rw (m, d, by-mark key (textAt s at) n, packed k j key s (afterItem s at) n (omega arith))
 
-marks-small : (k key : ℕ) (s : List ℕ) (at : ℕ) → marksFrom k key s at < 256 ^ k
+-- marks take a byte each
+marks-small : (c k key : ℕ) (s : List ℕ) (at : ℕ) → k ≤ c → marksFrom k key s at < 256 ^ c
 unfolding marksFrom
-marks-small zero key s at = omega arith
-marks-small (suc k) key s at =
+marks-small c zero key s at h = one-le-pow c 256 (omega arith)
+marks-small zero (suc k) key s at h = absurd (omega arith)
+marks-small (suc c) (suc k) key s at h =
     let l = mark-range key (textAt s at) in
-    let m = marks-small k key s (afterItem s at) in
-    let z = pow-suc 256 k in
+    let m = marks-small c k key s (afterItem s at) (omega arith) in
+    let z = pow-suc 256 c in
     omega arith
 
-marks-few : (c k key : ℕ) (s : List ℕ) (at : ℕ) → k ≤ c → marksFrom k key s at < 256 ^ c
-marks-few c k key s at h =
-    let l = marks-small k key s at in
-    let m : 256 ^ k ≤ 256 ^ c = pow-le-pow-right {n = 256} (omega arith) h in
-    omega arith
-
+-- a word has the names that it is made of
 word-of : (s : List ℕ) (n : Name) (key at k : ℕ) → k ≤ 6 → wordHas s n (markBy key n) (at * 2 ^ 48 + marksFrom k key s at) ≡ memberFrom k s at n
 unfolding wordHas
 word-of s n key at k h =
-    let l : marksFrom k key s at < 2 ^ 48 = marks-few 6 k key s at h in
+    let l : marksFrom k key s at < 2 ^ 48 = marks-small 6 k key s at h in
     let m : (at * 2 ^ 48 + marksFrom k key s at) % 2 ^ 48 ≡ marksFrom k key s at = omega arith in
     let d : (at * 2 ^ 48 + marksFrom k key s at) / 2 ^ 48 ≡ at = omega arith in
     rw (m, d) (packed 6 k key s at n h)
@@ -219,7 +216,7 @@ names-split (suc a) b s at n = let z : suc a + b ≡ suc (a + b) = omega arith i
 
 -- packed one by one
 pub packs-small : {k key : ℕ} {s : List ℕ} {at : ℕ} {r : Packed} (c : ℕ) → Packs k key s at r → k ≤ c → r .marks < 256 ^ c
-packs-small {k} {key} {s} {at} c g h = rw (g .marks) (marks-few c k key s at h)
+packs-small {k} {key} {s} {at} c g h = rw (g .marks) (marks-small c k key s at h)
 
 module _ (key : ℕ) (s : List ℕ) (at many : ℕ) where
   pub pack-none : many ≡ 0 → Packs many key s at (record { marks = 0; next = at })
@@ -248,7 +245,6 @@ unfolding segmentHas
 segment-kept s n T T′ q l g =
     rw (l, g q (omega arith) (omega arith), among-kept s n (markBy (keyAt (getD T q 0)) n) T T′ (q + 1) (wordsOf (getD T q 0)) (λ j h. g (q + 1 + j) (omega arith) (omega arith)))
 
--- words that are filled: the first j of them, and the names from place k on, of which so many are left, have all names
 either-swap : (a b c : Bool) → pick (pick a true b) true c ≡ pick b true (pick a true c)
 unfolding pick
 either-swap true true c = refl
@@ -261,6 +257,7 @@ unfolding pick
 either-none true = refl
 either-none false = refl
 
+-- words that are filled: the first j of them, and the names from place k on, of which so many are left, have all names
 module _ (key : ℕ) (s : List ℕ) (first many : ℕ) (T : List ℕ) (q : ℕ) where
   pub record Filling (j k left : ℕ) (T′ : List ℕ) : Type 0 where
     pub size : length T′ ≡ length T

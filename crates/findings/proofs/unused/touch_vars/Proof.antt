@@ -1,4 +1,4 @@
--- All lanes are empty at first.
+-- All lanes are empty at first; either way touches all.
 use native.Mathlib.Omega.{arith}
 use borrow.Author.Needs.{needs}
 use Rattle.typing.proofs.LaneLaws.{no-lanes}
@@ -12,6 +12,10 @@ touch-vars-spec =
     (λ c. search needs)
     (λ c. search needs)
     (λ c κs. (no-lanes _ _ _, (omega arith, search needs)))
+    (λ c. search needs)
+    (λ c. search needs)
+    (λ c. search needs)
+    (λ c κs. search needs)
     (λ c. search needs)
     (λ c. search needs)
     (λ c κs. search needs)
