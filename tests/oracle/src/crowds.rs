@@ -1,5 +1,5 @@
 //! Names made to cost the port's tables most: by its first key they share a
-//! lane, or they have one print.
+//! lane, a mark or a whole print, or by its last a lane.
 
 use std::sync::OnceLock;
 
@@ -45,7 +45,7 @@ fn first_of_table(name: &str) -> bool {
 
 /// Whether a variant has the first mark by the first key.
 fn first_of_marks(name: &str) -> bool {
-    (spread(0, name) >> 24) % 255 == 0
+    (spread(0, name) >> 24).is_multiple_of(255)
 }
 
 fn those(start: &str, many: usize, shared: fn(&str) -> bool) -> Vec<String> {
@@ -70,9 +70,9 @@ pub fn of_mark(start: &str, many: usize) -> Vec<String> {
 
 /// A name on the lane of another by the last key of a block.
 pub fn mate(of: &str) -> String {
-    let names = (0..).map(|k: u32| format!("m{k:x}"));
+    let mut names = (0..).map(|k: u32| format!("m{k:x}"));
     let lane = |name: &str| lane_of_block(7, name);
-    names.skip_while(|n| lane(n) != lane(of)).next().unwrap()
+    names.find(|n| lane(n) == lane(of)).unwrap()
 }
 
 /// So many names of eight letters that have one print: the last four make up
@@ -91,14 +91,15 @@ pub fn of_one_print(many: usize) -> Vec<String> {
 }
 
 /// Names of every kind, made once: plain ones, those of one lane of a block or
-/// of a table, and those of one print.
-pub fn pools() -> &'static [Vec<String>; 4] {
-    static POOLS: OnceLock<[Vec<String>; 4]> = OnceLock::new();
+/// of a table, those of one mark, and those of one print.
+pub fn pools() -> &'static [Vec<String>; 5] {
+    static POOLS: OnceLock<[Vec<String>; 5]> = OnceLock::new();
     POOLS.get_or_init(|| {
         [
             (0..3_600).map(|k| format!("x{k}")).collect(),
             of_block("x", 3_600),
             of_table("x", 3_600),
+            of_mark("x", 3_600),
             of_one_print(255),
         ]
     })
