@@ -142,7 +142,7 @@ gathered-lanes {s} {once} {m} {heads} {links} g =
       heads-size = w .heads-size;
       table-room = omega arith;
       links-room = w .links-room;
-      woven = woven-kept (w .woven) (λ j h. ap (λ (a : ℕ). laneBy (keyOf heads) (textAt s a)) (getD-take (2 * m) once (2 * j) 0 (omega arith))) (λ h l. refl) (λ i l. refl);
+      woven = woven-kept (w .woven) (λ j h. ap (λ (a : ℕ). laneBy (keyOf heads) (textAt s a)) (getD-take (2 * m) once (2 * j) 0 (omega arith))) (λ h l. refl) (λ i l. refl) (λ i j a b x. x);
     })
 
 mark-is : (b : Bool) {x : ℕ} → x ≡ cond b 1 0 → eqb x 1 ≡ b
