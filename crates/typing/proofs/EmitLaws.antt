@@ -6,7 +6,7 @@ use mathlib.Core.List.{List, [], _∷_}
 use mathlib.Core.Option.{Option, none, some}
 use native.Mathlib.Omega.{arith}
 use lib.Dec.{eqb}
-use lib.ListN.{length, getD}
+use lib.ListN.{length, getD, getElem?}
 use borrow.Author.Tests.{eq-eqb, ne-eqb}
 use Rattle.reading.specs.Read.{ok, pick}
 use Rattle.reading.specs.Limits.{maxDepth, maxList}
@@ -29,16 +29,16 @@ use Rattle.typing.specs.Causes.{firstOf, blame, arg}
 use Rattle.typing.specs.Names.{firstCalled}
 use Rattle.typing.specs.Env.{Env}
 use Rattle.typing.specs.Typing.{typeExpr}
-use Rattle.typing.specs.Patterns.{declaredName}
 use Rattle.typing.specs.Outputs.{fieldsOf, argCause, judgeArgs, variantName, judgeOutputVariant, judgeOutputName, judgeOutput, validateOutputExpr}
 use Rattle.typing.specs.Means.{causeOf, unfitOf, withinOf, blameOf}
 use Rattle.typing.specs.Table.{afterItem, afterHead, afterTag, Past}
 use Rattle.typing.specs.Accepts.{nameFound}
-use Rattle.typing.specs.First.{groupName, First, FirstVariants}
+use Rattle.typing.specs.First.{groupName}
 use Rattle.typing.specs.Typed.{Types}
 use Rattle.typing.specs.Arguments.{AcceptsTyped}
 use Rattle.typing.specs.Entries.{opened, Entered, FieldsAt}
 use Rattle.typing.specs.Emits.{JudgesArg, JudgesArgs, OnlyVariant, NamesVariant, JudgesVariant, JudgesName, JudgesGroup}
+use Rattle.typing.specs.Rolls.{variantsIn, OutputsAt, FindsOn, FindsVariant}
 use Rattle.typing.specs.Blames.{JudgesOutput}
 use Rattle.typing.specs.declared.ty.Ty.{Ty}
 use Rattle.typing.specs.declared.cause.Typed.{Typed}
@@ -59,7 +59,7 @@ use Rattle.typing.proofs.TypeLaws.{is-typed, is-failed}
 use Rattle.typing.proofs.EntryLaws.{entered, Next, none-left, next, entered-at}
 use Rattle.typing.proofs.PartLaws.{past-at, option-null, option-there, field-text, field-type, field-ends}
 use Rattle.typing.proofs.FirstLaws.{found-no, found-yes, variant-text}
-use Rattle.typing.proofs.GroupLaws.{group-no, group-yes}
+use Rattle.typing.proofs.OutputLaws.{numbered-no, numbered-yes, group-number}
 
 -- an argument with its field's name and type
 module _ (s : List ℕ) (t : Typed) (name ty : ℕ) {f : Fit} (g : AcceptsTyped s t ty f) where
@@ -198,54 +198,56 @@ module _ (env : Env) (s : List ℕ) (args name decl : ℕ) {given fields : Entri
   }
 
 -- by the variants
-module _ (env : Env) (s : List ℕ) (group args name variants : ℕ) {f : Found} {w : Name} (t : w ≡ textAt s name) (h : First readConstructorVariant declaredName s variants w f) where
-  pub variant-unknown : f ≡ Nothing → JudgesName env s group args name variants (blames.Found Alone (UnknownOutputVariant name group))
+module _ (env : Env) (s : List ℕ) (group args name : ℕ) (outputs : List ℕ) (k variants : ℕ) {f : Found} {w : Name} (t : w ≡ textAt s name) (h : FindsVariant s outputs k variants w f) where
+  pub variant-unknown : f ≡ Nothing → JudgesName env s group args name outputs k variants (blames.Found Alone (UnknownOutputVariant name group))
   unfolding judgeOutputVariant blame blameOf withinOf causeOf
-  variant-unknown q = record { of = λ o n vs m i j k. rw (sym t, found-no (h .of vs m k) q, i) }
+  variant-unknown q = record { of = λ o n gs g B i j u e v. rw (sym t, found-no (h .of B gs g u e v) q, i) }
 
-  pub variant-known : {decl : ℕ} (r : Blame) → f ≡ At decl → JudgesVariant env s args name decl r → JudgesName env s group args name variants r
-  variant-known r q g = record { of = λ o n vs m i j k. let x = found-yes (h .of vs m k) q in rw (sym t, x .3) (rw (sym t) at (g .of o n (x .0) (x .1) j (x .2))) }
+  pub variant-known : {decl : ℕ} (r : Blame) → f ≡ At decl → JudgesVariant env s args name decl r → JudgesName env s group args name outputs k variants r
+  variant-known r q y = record { of = λ o n gs g B i j u e v. let x = found-yes (h .of B gs g u e v) q in rw (sym t, x .3) (rw (sym t) at (y .of o n (x .0) (x .1) j (x .2))) }
 
 -- by the declared group
-module _ (env : Env) (s : List ℕ) (group variants : ℕ) {variant args : ℕ} {f : Found} (a : Past s group variant) (b : Past s variant args) (e : NamesVariant s variant variants f) where
-  variant-place : (o : OutputExpr) (k : ℕ) → readName s group ≡ ok (o .group) k → variant ≡ k
-  variant-place o k i = a .is ∙ after-is name-laws s (a .each) group (o .group) k i
+module _ (env : Env) (s : List ℕ) (group : ℕ) (outputs : List ℕ) (k : ℕ) {variant args variants : ℕ} {f : Found} (a : Past s group variant) (b : Past s variant args) (c : variants ≡ variantsIn s outputs k) (e : NamesVariant s variant variants f) where
+  variant-place : (o : OutputExpr) (l : ℕ) → readName s group ≡ ok (o .group) l → variant ≡ l
+  variant-place o l i = a .is ∙ after-is name-laws s (a .each) group (o .group) l i
 
-  name-was : (o : OutputExpr) (k l : ℕ) (g : ConstructorGroup) (m : ℕ) → readName s group ≡ ok (o .group) k → optional readName s k ≡ ok (o .variant) l → listOf maxList readConstructorVariant s variants ≡ ok (g .variants) m → nameFound s f ≡ variantName (o .variant) (g .variants)
-  name-was o k l g m i j u = e .of (o .variant) l (g .variants) m (ap (optional readName s) (variant-place o k i) ∙ j) u
+  name-was : (o : OutputExpr) (l m : ℕ) (gs : List ConstructorGroup) (g : ConstructorGroup) → readName s group ≡ ok (o .group) l → optional readName s l ≡ ok (o .variant) m → OutputsAt s outputs gs → getElem? gs k ≡ some g → nameFound s f ≡ variantName (o .variant) (g .variants)
+  name-was o l m gs g i j u v = let x = u .variants-are k g v in e .of (o .variant) m (g .variants) (x .0) (ap (optional readName s) (variant-place o l i) ∙ j) (rw c (x .1))
 
-  pub output-bare : f ≡ Nothing → JudgesGroup env s group variants (blames.Found Alone (BareOutput group))
+  pub output-bare : f ≡ Nothing → JudgesGroup env s group outputs k (blames.Found Alone (BareOutput group))
   unfolding judgeOutput judgeOutputName nameFound blame blameOf withinOf causeOf
-  output-bare q = record { of = λ o k l n g m i j u v. rw (sym (name-was o k l g m i j v) ∙ ap (nameFound s) q, name-text s group (o .group) k i) }
+  output-bare q = record { of = λ o l m n gs g i j u v w. rw (sym (name-was o l m gs g i j v w) ∙ ap (nameFound s) q, name-text s group (o .group) l i) }
 
-  pub output-named : {name : ℕ} (r : Blame) → f ≡ At name → JudgesName env s group args name variants r → JudgesGroup env s group variants r
+  pub output-named : {name : ℕ} (r : Blame) → f ≡ At name → JudgesName env s group args name outputs k variants r → JudgesGroup env s group outputs k r
   unfolding judgeOutput judgeOutputName nameFound
-  output-named r q w = record {
-    of = λ o k l n g m i j u v.
-        let p : args ≡ l = b .is ∙ ap (afterItem s) (variant-place o k i) ∙ after-is (option-laws name-laws name-solid) s (b .each) k (o .variant) l j in
-        rw (sym (name-was o k l g m i j v) ∙ ap (nameFound s) q)
-        (w .of o n (g .variants) m (name-text s group (o .group) k i) (ap (listOf maxList readTopExpr s) p ∙ u) v);
+  output-named r q y = record {
+    of = λ o l m n gs g i j u v w.
+        let p : args ≡ m = b .is ∙ ap (afterItem s) (variant-place o l i) ∙ after-is (option-laws name-laws name-solid) s (b .each) l (o .variant) m j in
+        rw (sym (name-was o l m gs g i j v w) ∙ ap (nameFound s) q)
+        (y .of o n gs g (a .each) (name-text s group (o .group) l i) (ap (listOf maxList readTopExpr s) p ∙ u) v w c);
   }
 
 -- by the groups
-module _ (env : Env) (s : List ℕ) (at : ℕ) (outputs : List ℕ) {group : ℕ} {w : Name} {f : Found} (h : group ≡ afterHead s at) (t : w ≡ textAt s group) (e : FirstVariants s outputs w f) where
+module _ (env : Env) (s : List ℕ) (at : ℕ) (outputs : List ℕ) {group : ℕ} {w : Name} {f : Found} (h : group ≡ afterHead s at) (t : w ≡ textAt s group) (e : FindsOn false s w outputs 0 f) where
   pub output-unknown : f ≡ Nothing → JudgesOutput env s at outputs (blames.Found Alone (UnknownOutputGroup group))
   unfolding validateOutputExpr judgeOutput blame blameOf withinOf causeOf
   output-unknown q = record {
     of = λ gs o j u v.
         let x = output-expr-at s at o j v in
         let p : w ≡ o .group = t ∙ ap (textAt s) (h ∙ fields-head 3 s at tt (x .group) (x .opens)) ∙ name-text s (x .group) (o .group) (x .variant) (x .group-is) in
-        rw (sym p, group-no (e .of gs u) q, sym t);
+        let y = group-number s outputs w gs e u in
+        rw (sym p, numbered-no (y .2) (sym (y .1) ∙ q), sym t);
   }
 
-  pub output-known : {variants : ℕ} (r : Blame) → f ≡ At variants → JudgesGroup env s group variants r → JudgesOutput env s at outputs r
+  pub output-known : {k : ℕ} (r : Blame) → f ≡ At k → JudgesGroup env s group outputs k r → JudgesOutput env s at outputs r
   unfolding validateOutputExpr
   output-known r q g = record {
     of = λ gs o j u v.
         let x = output-expr-at s at o j v in
         let z : group ≡ x .group = h ∙ fields-head 3 s at tt (x .group) (x .opens) in
         let p : w ≡ o .group = t ∙ ap (textAt s) z ∙ name-text s (x .group) (o .group) (x .variant) (x .group-is) in
-        let y = group-yes (e .of gs u) q in
-        g .of o (x .variant) (x .args) j (y .0) (y .1) (ap (readName s) z ∙ x .group-is) (x .variant-is) (x .args-is) (y .2)
-        ∙ ap (judgeOutput env o) (sym (y .3) ∙ ap (λ (n : Name). firstCalled groupName n gs) p);
+        let y = group-number s outputs w gs e u in
+        let d = numbered-yes (y .2) (sym (y .1) ∙ q) in
+        g .of o (x .variant) (x .args) j gs (d .0) (ap (readName s) z ∙ x .group-is) (x .variant-is) (x .args-is) u (d .1)
+        ∙ ap (judgeOutput env o) (sym (d .2) ∙ ap (λ (n : Name). firstCalled groupName n gs) p);
   }

@@ -92,21 +92,23 @@ module _ (s groups : List ℕ) (w : Name) where
             sym (here gs g (x .0) (x .1) ∙ ap (λ (y : Bool). firstOf (pick y (some (x .0)) none) (firstCalled groupName w (drop (k + 1) gs))) z);
       }
 
--- the table of a list of groups
+-- the parts of a group: its name stands after its head, and its variants after that
 module _ (s : List ℕ) (B : Bytes s) where
+  pub group-parts : (k : ℕ) (x : ConstructorGroup) (n : ℕ) → readConstructorGroup s k ≡ ok x n → (textAt s (afterHead s k) ≡ x .name) × (listOf maxList readConstructorVariant s (afterItem s (afterHead s k)) ≡ ok (x .variants) n)
+  group-parts k x n e =
+      let v = constructor-group-at s k x n e in
+      let h : afterHead s k ≡ v .name = fields-head 2 s k tt (v .name) (v .opens) in
+      let j : afterItem s (afterHead s k) ≡ v .variants = ap (afterItem s) h ∙ after-is name-laws s B (v .name) (x .name) (v .variants) (v .name-is) in
+      (ap (textAt s) h ∙ name-text s (v .name) (x .name) (v .variants) (v .name-is), ap (listOf maxList readConstructorVariant s) j ∙ v .variants-is)
+
+  -- the table of a list of groups
   group-pair : (gs : List ConstructorGroup) (k n : ℕ) → entries (length gs) readConstructorGroup s k ≡ ok gs n → (i : ℕ) (x : ConstructorGroup) → getElem? gs i ≡ some x → (textAt s (getD (pairsFrom (length gs) s k) (2 * i) 0) ≡ x .name) × (m : ℕ) × (listOf maxList readConstructorVariant s (getD (pairsFrom (length gs) s k) (2 * i + 1) 0) ≡ ok (x .variants) m)
   unfolding pairsFrom
   group-pair [] k n e i x q = no (cc)
   group-pair (y ∷ gs) k n e zero x q =
       let u = entry readConstructorGroup s k y gs n e in
-      let v = constructor-group-at s k y (u .end) (u .here) in
-      let h : afterHead s k ≡ v .name = fields-head 2 s k tt (v .name) (v .opens) in
-      let j : afterItem s (afterHead s k) ≡ v .variants = ap (afterItem s) h ∙ after-is name-laws s B (v .name) (y .name) (v .variants) (v .name-is) in
-      let z : y ≡ x = cc in (
-        ap (textAt s) h ∙ name-text s (v .name) (y .name) (v .variants) (v .name-is) ∙ ap groupName z,
-        u .end,
-        ap (listOf maxList readConstructorVariant s) j ∙ v .variants-is ∙ ap (λ (w : ConstructorGroup). ok (w .variants) (u .end)) z,
-      )
+      let v = group-parts k y (u .end) (u .here) in
+      let z : y ≡ x = cc in (v .0 ∙ ap groupName z, u .end, v .1 ∙ ap (λ (w : ConstructorGroup). ok (w .variants) (u .end)) z)
   group-pair (y ∷ gs) k n e (suc i) x q =
       let u = entry readConstructorGroup s k y gs n e in
       let a : 2 * suc i ≡ suc (suc (2 * i)) = omega arith in

@@ -9,6 +9,7 @@ pub mod TableLaws
 pub mod LaneLaws
 pub mod BlockLaws
 pub mod SegmentLaws
+pub mod RollLaws
 pub mod PathLaws
 pub mod TypeLaws
 pub mod ShapeLaws
@@ -27,6 +28,8 @@ pub mod ApartLaws
 pub mod WalkLaws
 pub mod EventLaws
 pub mod ArgLaws
+pub mod OutputLaws
+pub mod FillLaws
 pub mod EmitLaws
 pub mod ClashLaws
 pub mod EqualityLaws

@@ -321,6 +321,10 @@ module _ {s : List ℕ} {first many : ℕ} {T : List ℕ} {q key : ℕ} {r : Boo
     unfolding FillsKeyed
     keyed-at l = (l, fills-all)
 
+-- fewer words are as they were, too
+pub front : (T T′ : List ℕ) (m n : ℕ) → m ≤ n → take n T′ ≡ take n T → take m T′ ≡ take m T
+front T T′ m n h e = sym (take-take m n T′ h) ∙ ap (take m) e ∙ take-take m n T h
+
 -- a segment: its first word, and its words after that
 module _ (s T : List ℕ) (q : ℕ) where
   segment-none : (list : ℕ) {T′ : List ℕ} → q ≤ length T → length T′ ≡ length T → take q T′ ≡ take q T → Segmented s list T q 0 T′
@@ -329,15 +333,12 @@ module _ (s T : List ℕ) (q : ℕ) where
   pub segment-empty : (list : ℕ) → q ≤ length T → Segmented s list T q 0 T
   segment-empty list h = segment-none list h refl refl
 
-  front : (T′ : List ℕ) → take (q + 1) T′ ≡ take (q + 1) T → take q T′ ≡ take q T
-  front T′ e = sym (take-take q (q + 1) T′ (omega arith)) ∙ ap (take q) e ∙ take-take q (q + 1) T (omega arith)
-
   module _ (e : Entries) (f : Found) (T′ : List ℕ) (g : FillsKeyed s (e .first) (e .many) T (q + 1) f T′) where
     pub segment-stops : (list : ℕ) → f ≡ Nothing → q ≤ length T → Segmented s list T q 0 T′
     unfolding FillsKeyed
     segment-stops list z h =
         let k : (length T′ ≡ length T) × (take (q + 1) T′ ≡ take (q + 1) T) = rw z at g in
-        segment-none list h (k .0) (front T′ (k .1))
+        segment-none list h (k .0) (front T T′ q (q + 1) (omega arith) (k .1))
 
     module _ {key : ℕ} (z : f ≡ At key) where
       by-key : (key < 8) × FillsWords key s (e .first) (e .many) T (q + 1) true T′
@@ -359,7 +360,7 @@ module _ (s T : List ℕ) (q : ℕ) where
           let d : keyAt (getD (set T′ q h) q 0) ≡ key = omega arith in
           record {
             size = y′;
-            kept = take-set-le q T′ q h (omega arith) ∙ front T′ (k .kept);
+            kept = take-set-le q T′ q h (omega arith) ∙ front T T′ q (q + 1) (omega arith) (k .kept);
             room = omega arith;
             count = λ z. ap (λ (i : ℕ). i + 1) w;
             has = λ z n.

@@ -24,6 +24,7 @@ pub mod Entries
 pub mod Judges
 pub mod Accepts
 pub mod First
+pub mod Rolls
 pub mod Arguments
 pub mod Emits
 pub mod Blames

@@ -6,8 +6,18 @@ use reading::Cursor;
 use reading::Tagged;
 ghost use mathlib.Core.Path.{_≡_};
 ghost use Prim.Native.Nat.{_≤_};
-ghost use lib.ListN.{set};
+ghost use lib.ListN.{getD, set};
 ghost use Rattle.typing.specs.Table.{afterHead, afterTag, Past, pairsAt, Filled};
+
+// A word of a table; 0 past its end.
+pub fn word(table: &[usize], j: usize) -> usize
+    ensures { λ r. ⌜ r ≡ getD (now (table .entry)) j 0 ⌝ }
+{
+    if j < table.len() {
+        return table[j];
+    }
+    0
+}
 
 // Puts a place into the table, where it has such a word.
 pub fn store(table: &mut [usize], j: usize, place: usize)

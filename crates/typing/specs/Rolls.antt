@@ -1,0 +1,156 @@
+-- Rolls: the items of a list with the prints of their names, so that a name is looked for among those of its print. A roll is a word that says how
+-- many items it has, and above that its key, then the place of each item, and then an index word for each: the print of its name by the key's
+-- factor; 2 ^ 32 times a hint, which is that of a lane and one more than the number of the first item whose name is on the lane, or 0 where none
+-- is; and 2 ^ 40 times a word's number, put aside for it. As many lanes as items are there. Any key gives the right answers. The name of an item
+-- stands after its head, or after its tag.
+use Prim.Native.Nat.{ℕ, zero, suc, _+_, _*_, _/_, _%_, _^_, _<_, _≤_}
+use mathlib.Core.Path.{_≡_}
+use mathlib.Core.List.{List}
+use mathlib.Core.Bool.{Bool, true, false}
+use mathlib.Core.Option.{Option, none, some}
+use lib.ListN.{length, getD, getElem?, take}
+use Rattle.reading.specs.Read.{ok, pick}
+use Rattle.reading.specs.Limits.{maxList}
+use Rattle.reading.specs.Item.{readCount}
+use Rattle.reading.specs.Text.{Name}
+use Rattle.reading.specs.Combine.{listOf}
+use Rattle.reading.specs.Decl.{ConstructorGroup, readConstructorVariant, readConstructorGroup}
+use Rattle.reading.specs.Skip.{textAt}
+use Rattle.typing.specs.Names.{eqName, firstCalled}
+use Rattle.typing.specs.Patterns.{declaredName}
+use Rattle.typing.specs.Lanes.{printBy, factor, spread}
+use Rattle.typing.specs.Table.{afterItem, afterHead, afterTag, found}
+use Rattle.typing.specs.Segments.{afterItems}
+use Rattle.typing.specs.First.{FoundAt}
+use Rattle.typing.specs.declared.table.Found.{Found}
+use Rattle.typing.specs.declared.table.Found.the-variants.{At, Nothing}
+
+-- each word is a byte
+abbrev pub Bytes : List ℕ → Type 0
+Bytes s = (i : ℕ) → getD s i 0 < 256
+
+-- where the name of the item at a place stands
+unfoldable pub nameAt : Bool → List ℕ → ℕ → ℕ
+nameAt tagged s at = pick tagged (afterTag s at) (afterHead s at)
+
+-- the words of the roll at word q, which has n items: how many they are and its key, the place of item i, and its index word
+abbrev pub manyIn : List ℕ → ℕ → ℕ
+manyIn T q = getD T q 0 % 2 ^ 8
+
+abbrev pub keyOn : List ℕ → ℕ → ℕ
+keyOn T q = getD T q 0 / 2 ^ 8
+
+abbrev pub itemIn : List ℕ → ℕ → ℕ → ℕ
+itemIn T q i = getD T (q + 1 + i) 0
+
+abbrev pub indexIn : List ℕ → ℕ → ℕ → ℕ → ℕ
+indexIn T q n i = getD T (q + 1 + n + i) 0
+
+-- the parts of an index word
+abbrev pub printOf : ℕ → ℕ
+printOf w = w % 2 ^ 32
+
+abbrev pub hintOf : ℕ → ℕ
+hintOf w = w / 2 ^ 32 % 2 ^ 8
+
+abbrev pub asideOf : ℕ → ℕ
+asideOf w = w / 2 ^ 40
+
+-- the lane of a print, one of n
+unfoldable pub rollLane : ℕ → ℕ → ℕ
+rollLane n p = spread p / 2 ^ 16 % n
+
+-- the n index words from word o on have hints: the hint of an item's lane is not 0, and leads to no later item
+pub record Hinted (T : List ℕ) (o n : ℕ) : Type 0 where
+  pub some-hint : (i : ℕ) → i < n → 0 < hintOf (getD T (o + rollLane n (printOf (getD T (o + i) 0))) 0)
+  pub not-past : (i : ℕ) → i < n → hintOf (getD T (o + rollLane n (printOf (getD T (o + i) 0))) 0) ≤ i + 1
+
+-- the roll at word q has the n items from a place on
+pub record Rolled (tagged : Bool) (s T : List ℕ) (q first n : ℕ) : Type 0 where
+  pub many : manyIn T q ≡ n
+  pub few : n ≤ 255
+  pub room : q + 2 * n < length T
+  pub item : (i : ℕ) → i < n → itemIn T q i ≡ afterItems i s first
+  pub print-is : (i : ℕ) → i < n → printOf (indexIn T q n i) ≡ printBy (factor (keyOn T q)) 0 (textAt s (nameAt tagged s (afterItems i s first)))
+  pub hinted : Hinted T (q + 1 + n) n
+
+-- the number of the first of k items from a place on that has the name, where the first has number i
+unfoldable pub numberFrom : ℕ → Bool → List ℕ → ℕ → Name → ℕ → Option ℕ
+numberFrom zero tagged s at x i = none
+numberFrom (suc k) tagged s at x i = pick (eqName (textAt s (nameAt tagged s at)) x) (some i) (numberFrom k tagged s (afterItem s at) x (suc i))
+
+-- for whatever items are on the roll at word q, r is the number of the first that has the name
+pub record FindsOn (tagged : Bool) (s : List ℕ) (x : Name) (T : List ℕ) (q : ℕ) (r : Found) : Type 0 where
+  pub of : (first n : ℕ) → Rolled tagged s T q first n → r ≡ found (numberFrom n tagged s first x 0)
+
+-- an item's number, whatever stands in the table: its place stands in it too
+unfoldable pub WithinTable : List ℕ → ℕ → Found → Type 0
+WithinTable T q (At i) = q + 1 + i < length T
+WithinTable T q Nothing = Unit {0}
+
+-- a table after the places of n items from a place on were put behind word q, and the prints of their names by a key behind those
+pub record PutsItems (tagged : Bool) (s : List ℕ) (key first n : ℕ) (T : List ℕ) (q : ℕ) (T′ : List ℕ) : Type 0 where
+  pub size : length T′ ≡ length T
+  pub kept : take (q + 1) T′ ≡ take (q + 1) T
+  pub item : (i : ℕ) → i < n → itemIn T′ q i ≡ afterItems i s first
+  pub print-is : (i : ℕ) → i < n → indexIn T′ q n i ≡ printBy (factor key) 0 (textAt s (nameAt tagged s (afterItems i s first)))
+
+-- a table after the n index words from word o on were given their hints, and nothing aside: their prints, and all words before them, are as they were
+pub record PutsHints (T : List ℕ) (o n : ℕ) (T′ : List ℕ) : Type 0 where
+  pub size : length T′ ≡ length T
+  pub kept : take o T′ ≡ take o T
+  pub print-kept : (i : ℕ) → i < n → printOf (getD T′ (o + i) 0) ≡ printOf (getD T (o + i) 0)
+  pub bare : (i : ℕ) → i < n → getD T (o + i) 0 < 2 ^ 40 → getD T′ (o + i) 0 < 2 ^ 40
+  pub hinted : Hinted T′ o n
+
+-- a table after a roll of the n items from a place on was put from word q on, by some key: the words before are as they were
+pub record PutsKeyed (tagged : Bool) (s : List ℕ) (first n : ℕ) (T : List ℕ) (q : ℕ) (T′ : List ℕ) : Type 0 where
+  pub size : length T′ ≡ length T
+  pub kept : take q T′ ≡ take q T
+  pub rolled : Rolled tagged s T′ q first n
+  pub bare : (i : ℕ) → i < n → indexIn T′ q n i < 2 ^ 40
+
+-- a table after a roll of the items of the list at a place was put from word q on, in r words, or none, if r is 0: the words before are as they were
+pub record PutsRoll (tagged : Bool) (s : List ℕ) (list : ℕ) (T : List ℕ) (q r : ℕ) (T′ : List ℕ) : Type 0 where
+  pub size : length T′ ≡ length T
+  pub kept : take q T′ ≡ take q T
+  pub room : q + r ≤ length T
+  pub has : 0 < r → (n first : ℕ) → readCount maxList s list ≡ ok n first → (r ≡ 2 * n + 1) × Rolled tagged s T′ q first n
+  pub bare : 0 < r → (i : ℕ) → i < manyIn T′ q → indexIn T′ q (manyIn T′ q) i < 2 ^ 40
+  pub count : 0 < r → (manyIn T′ q ≤ 255) × (r ≡ 2 * manyIn T′ q + 1)
+
+-- the place of the variants of group k, by a table of outputs
+abbrev pub variantsIn : List ℕ → List ℕ → ℕ → ℕ
+variantsIn s T k = afterItem s (afterHead s (itemIn T 0 k))
+
+-- the word at which those have a roll; 0 where they have none
+abbrev pub rollIn : List ℕ → ℕ → ℕ
+rollIn T k = asideOf (indexIn T 0 (manyIn T 0) k)
+
+-- a table of outputs: a roll of the groups, and behind it rolls of the variants of some
+pub record OutputsAt (s T : List ℕ) (gs : List ConstructorGroup) : Type 0 where
+  pub first : ℕ
+  pub groups : Rolled false s T 0 first (length gs)
+  pub name-is : (k : ℕ) (x : ConstructorGroup) → getElem? gs k ≡ some x → textAt s (afterHead s (itemIn T 0 k)) ≡ x .name
+  pub variants-are : (k : ℕ) (x : ConstructorGroup) → getElem? gs k ≡ some x → (n : ℕ) × (listOf maxList readConstructorVariant s (variantsIn s T k) ≡ ok (x .variants) n)
+  pub rolls : (k : ℕ) (x : ConstructorGroup) → getElem? gs k ≡ some x → 0 < rollIn T k → (n from : ℕ) × (readCount maxList s (variantsIn s T k) ≡ ok n from) × Rolled true s T (rollIn T k) from n
+
+-- a table of outputs of n groups after the variants of group k were given a roll between words q and r, or none
+pub record RollsOne (s T : List ℕ) (n k q r : ℕ) (T′ : List ℕ) : Type 0 where
+  pub size : length T′ ≡ length T
+  pub more : q ≤ r
+  pub room : r ≤ length T
+  pub few : r ≤ q + 511
+  pub kept : (j : ℕ) → j < q → (j ≡ 1 + n + k → ⊥) → getD T′ j 0 ≡ getD T j 0
+  pub index-kept : getD T′ (1 + n + k) 0 % 2 ^ 40 ≡ getD T (1 + n + k) 0 % 2 ^ 40
+  pub none-put : r ≡ q → getD T′ (1 + n + k) 0 ≡ getD T (1 + n + k) 0
+  pub put : q < r → (asideOf (getD T′ (1 + n + k) 0) ≡ q) × ((m from : ℕ) → readCount maxList s (variantsIn s T k) ≡ ok m from → (r ≡ q + 2 * m + 1) × Rolled true s T′ q from m)
+
+-- a table after it was filled from the list of groups at a place
+pub record FillsOutputs (s : List ℕ) (at : ℕ) (T : List ℕ) (T′ : List ℕ) : Type 0 where
+  pub size : length T′ ≡ length T
+  pub of : Bytes s → (gs : List ConstructorGroup) (n : ℕ) → listOf maxList readConstructorGroup s at ≡ ok gs n → OutputsAt s T′ gs
+
+-- the first variant of a name in group k, whose variants stand at a place
+pub record FindsVariant (s T : List ℕ) (k variants : ℕ) (w : Name) (r : Found) : Type 0 where
+  pub of : Bytes s → (gs : List ConstructorGroup) (g : ConstructorGroup) → OutputsAt s T gs → getElem? gs k ≡ some g → variants ≡ variantsIn s T k → FoundAt readConstructorVariant s r (firstCalled declaredName w (g .variants))
