@@ -49,7 +49,7 @@ pub(crate) fn sees_bindings(kind: u64) -> bool {
     }
 }
 
-// The item of the kind at a place, by the tables of the groups of outputs, the names it sees and the enums.
+// The item of the kind at a place, by the tables of outputs, of the names it sees and of the enums.
 pub(crate) fn number_of<'a>(
     doc: &'a [u8],
     kind: u64,

@@ -15,11 +15,10 @@ struct Step {
     at: usize,
 }
 
-// How many words of the tables are filled with groups of events, with groups of outputs, and with the blocks of variables and bindings; and
-// the number that was given last.
+// How many words of the tables are filled with groups of events, and with the blocks of variables and bindings; and the number that was given
+// last.
 struct State {
     events: usize,
-    outputs: usize,
     bound: usize,
     given: u32,
 }
@@ -27,7 +26,6 @@ struct State {
 fn start() -> State {
     State {
         events: 0,
-        outputs: 0,
         bound: 829,
         given: 0,
     }
@@ -66,6 +64,13 @@ fn fill_first_enums(doc: &[u8], at: usize, table: &mut [usize]) {
     }
 }
 
+// Fills a table of outputs, where it has room for a list of groups.
+fn fill_first_outputs(doc: &[u8], at: usize, table: &mut [usize]) {
+    if 511 <= table.len() {
+        typing::fill_outputs(doc, at, table);
+    }
+}
+
 // One of a module's lists.
 fn set_up(
     doc: &[u8],
@@ -92,7 +97,7 @@ fn set_up(
         out.events = typing::fill_table(doc, at, events);
         return out;
     }
-    out.outputs = typing::fill_table(doc, at, outputs);
+    fill_first_outputs(doc, at, outputs);
     out
 }
 
@@ -150,11 +155,7 @@ fn ask<'a>(
     if names.len() < n {
         return 255;
     }
-    let o = t.outputs;
-    if outputs.len() < o {
-        return 255;
-    }
-    number_of(doc, kind, s.at, &outputs[start..o], &names[start..n], enums)
+    number_of(doc, kind, s.at, outputs, &names[start..n], enums)
 }
 
 fn advance(
@@ -225,7 +226,7 @@ pub(crate) fn replay_steps(doc: &[u8], steps: &[u8], tally: Tally) -> Tally {
     let mut names = [0usize; 1658];
     let mut enums = [0usize; 2365];
     let mut events = [0usize; 512];
-    let mut outputs = [0usize; 512];
+    let mut outputs = [0usize; 1022];
     replay_with(
         doc,
         steps,

@@ -15,7 +15,7 @@ use Rattle.typing.specs.Env.{Env, Agree}
 use Rattle.typing.specs.Table.{Past}
 use Rattle.typing.specs.Blocks.{envAt}
 use Rattle.typing.proofs.EnvLaws.{after-is}
-use Rattle.typing.specs.First.{GroupsAt}
+use Rattle.typing.specs.Rolls.{OutputsAt}
 use Rattle.findings.specs.Lists.{Placed}
 use Rattle.findings.specs.Finding.{Note}
 use Rattle.findings.specs.Errors.{emitNotes}
@@ -26,7 +26,7 @@ use Rattle.findings.proofs.EachLaws.{Walking, walk-refused, walk-more, 
 pub record Emitting (s : List ℕ) (outputs names enums : List ℕ) : Type 0 where
   pub env : Env
   pub groups : List ConstructorGroup
-  pub declared : GroupsAt s outputs groups
+  pub declared : OutputsAt s outputs groups
   pub agree : Agree (envAt s names enums) env
 
 module _ (s : List ℕ) (at i : ℕ) (outputs names enums : List ℕ) (owner : ℕ) (o : List ℕ) (skip n : ℕ) where

@@ -1,14 +1,15 @@
--- The tables of groups behind the places of a module's fields: how they are filled, and what is read back.
+-- The tables of events and of outputs behind the places of a module's fields: how they are filled, and what is read back.
 use Prim.Native.Nat.{ℕ, zero, suc, _+_, _-_, _<_, _≤_}
 use mathlib.Core.Path.{_≡_, refl, sym, ap, _∙_}
-use mathlib.Core.List.{List, [], _∷_, _++_, append-assoc}
+use mathlib.Core.List.{List, [], _∷_, _++_, append-assoc, append-nil}
 use native.Mathlib.Omega.{arith}
 use native.Mathlib.Nat.{zero-add, sub-zero}
 use lib.ListN.{length, getD, set, take, drop, take-append-drop, length-set, length-take, length-drop, drop-of-length-le}
-use Rattle.typing.proofs.BlockLaws.{getD-sets-low}
-use lib.Seq.{sets, length-sets, sets-eq, length-take-le, getD-set-same, getD-set-other, take-set-le, drop-set-lt, drop-set-add, take-take, drop-drop, take-append-seam, drop-append-le, drop-at}
+use Rattle.typing.proofs.BlockLaws.{getD-sets-low, word-kept}
+use lib.Seq.{sets, length-sets, sets-eq, length-take-le, getD-set-same, getD-set-other, drop-set-lt, take-take, take-add, drop-drop, take-append-seam, drop-append-le, take-at, drop-at}
 use Rattle.typing.specs.Table.{pairsAt, Filled}
-use Rattle.findings.specs.Scene.{groupsIn, withTable, withGroups}
+use Rattle.typing.specs.Rolls.{FillsOutputs}
+use Rattle.findings.specs.Scene.{groupsIn, eventsIn, withTable, GroupsFilled}
 use Rattle.findings.proofs.ClaimTables.{pairs-few}
 
 -- a part of a table
@@ -39,19 +40,6 @@ groups-part places from words e f g = g ∙ ap (take words) (f ∙ ap (take 510)
 pub groups-as : (places : List ℕ) (from : ℕ) {words words′ : ℕ} {r : List ℕ} → words ≡ words′ → r ≡ groupsIn places from words → r ≡ groupsIn places from words′
 groups-as places from e g = g ∙ ap (groupsIn places from) e
 
--- words that are set elsewhere
-take-sets-le : (vs : List ℕ) (n : ℕ) (l : List ℕ) (j : ℕ) → n ≤ j → take n (sets l j vs) ≡ take n l
-take-sets-le [] n l j h = refl
-take-sets-le (v ∷ vs) n l j h = take-sets-le vs n (set l j v) (suc j) (omega arith) ∙ take-set-le n l j v h
-
-drop-sets-add : (vs : List ℕ) (n : ℕ) (l : List ℕ) (j : ℕ) → drop n (sets l (n + j) vs) ≡ sets (drop n l) j vs
-drop-sets-add [] n l j = refl
-drop-sets-add (v ∷ vs) n l j =
-    let k : suc (n + j) ≡ n + suc j = omega arith in
-    ap (λ (i : ℕ). drop n (sets (set l (n + j) v) i vs)) k
-    ∙ drop-sets-add vs n (set l (n + j) v) (suc j)
-    ∙ ap (λ (t : List ℕ). sets t (suc j) vs) (drop-set-add n l j v)
-
 -- a part of a table that is filled by itself
 part-filled : (l p E : List ℕ) (from n : ℕ) → from + n ≤ length l → length E ≤ n → p ≡ sets (take n (drop from l)) 0 E → take from l ++ (p ++ drop n (drop from l)) ≡ sets l from E
 part-filled l p E from n h few e =
@@ -70,10 +58,6 @@ module _ (s pl T : List ℕ) (at w from : ℕ) where
   group-filled {end} {a} m h k f y =
       let few = pairs-few s at in
       y ∙ (λ i. set (part-filled pl T (pairsAt s at) from (end - from) (omega arith) (omega arith) (f .words) i) w (f .many i))
-
-pub groups-filled : (s pl l m : List ℕ) {events outputs : ℕ} → events ≡ getD pl 5 0 → outputs ≡ getD pl 6 0 → l ≡ withTable pl 11 13 (pairsAt s events) → m ≡ withTable l 12 523 (pairsAt s outputs) → m ≡ withGroups s pl
-unfolding withGroups
-groups-filled s pl l m e o x y = y ∙ rw (x, e, o)
 
 -- what is read back
 module _ (pl : List ℕ) (w from : ℕ) (T : List ℕ) (few : length T ≤ 510) where
@@ -96,10 +80,28 @@ module _ (pl : List ℕ) (w from : ℕ) (T : List ℕ) (few : length T ≤ 510) 
         ∙ drop-at (take from pl) (T ++ drop (from + length T) pl) from (length-take-le from pl (omega arith)) in
         rw (c, d) (take-take (length T) 510 (T ++ drop (from + length T) pl) few ∙ take-append-seam T (drop (from + length T) pl))
 
--- a table that ends before what is filled stays as it is
-pub table-spared : (pl : List ℕ) (w from : ℕ) (T : List ℕ) (start words : ℕ) → w < start → start + 510 ≤ from → groupsIn (withTable pl w from T) start words ≡ groupsIn pl start words
-unfolding withTable
-table-spared pl w from T start words h k =
-    ap (take words)
-    (ap (take 510) (drop-set-lt start (sets pl from T) w (length T) h ∙ ap (λ (n : ℕ). drop start (sets pl n T)) (let z : from ≡ start + (from - start) = omega arith in z) ∙ drop-sets-add T start pl (from - start))
-    ∙ take-sets-le T 510 (drop start pl) (from - start) (omega arith))
+-- a part of what is before a part of a table
+pub middle : (l : List ℕ) (a b : ℕ) → a ≤ length l → take b (drop a l) ≡ drop a (take (a + b) l)
+middle l a b h = sym (ap (drop a) (take-add a b l) ∙ drop-at (take a l) (take b (drop a l)) a (length-take-le a l h))
+
+-- the words before word 522 have the table of events
+pub groups-kept : (l l′ : List ℕ) → 522 ≤ length l → take 522 l′ ≡ take 522 l → eventsIn l′ ≡ eventsIn l
+groups-kept l l′ h e =
+    let z = ap length e in
+    let y = length-take 522 l′ in
+    let x = length-take-le 522 l h in
+    ap (λ (w : ℕ). groupsIn l′ 12 w) (word-kept l l′ 522 e 11 (omega arith))
+    ∙ ap (take (getD l 11 0)) (middle l′ 12 510 (omega arith) ∙ ap (drop 12) e ∙ sym (middle l 12 510 (omega arith)))
+
+-- a part of a table to its end that is filled by itself
+pub groups-filled : (s pl l T T′ : List ℕ) {events outputs : ℕ} → 1544 ≤ length pl → events ≡ getD pl 5 0 → outputs ≡ getD pl 6 0 → l ≡ withTable pl 11 12 (pairsAt s events) → FillsOutputs s outputs T T′ → GroupsFilled s pl (take 522 l ++ (T′ ++ drop (length l - 522) (drop 522 l)))
+groups-filled s pl l T T′ {events} {outputs} h e o x f =
+    let size : length l ≡ length pl = ap length x ∙ table-size pl 11 12 (pairsAt s events) (pairs-few s events) in
+    let front : length (take 522 l) ≡ 522 = length-take-le 522 l (omega arith) in
+    let rest : drop (length l - 522) (drop 522 l) ≡ [] = drop-of-length-le (drop 522 l) {i = length l - 522} (omega (arith, length-drop 522 l)) in
+    let whole : take 522 l ++ (T′ ++ drop (length l - 522) (drop 522 l)) ≡ take 522 l ++ T′ = ap (λ (t : List ℕ). take 522 l ++ (T′ ++ t)) rest ∙ ap (λ (t : List ℕ). take 522 l ++ t) (append-nil T′) in
+    record {
+      kept = ap (take 522) whole ∙ take-at (take 522 l) T′ 522 front ∙ ap (take 522) (x ∙ ap (λ (a : ℕ). withTable pl 11 12 (pairsAt s a)) e);
+      before = T;
+      outputs = rw (← o, ap (drop 522) whole ∙ drop-at (take 522 l) T′ 522 front) f;
+    }

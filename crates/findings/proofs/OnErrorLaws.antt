@@ -23,7 +23,7 @@ use Rattle.typing.specs.Table.{afterItem, afterHead, Past}
 use Rattle.typing.specs.Blocks.{envAt}
 use Rattle.typing.specs.declared.table.Found.{Found}
 use Rattle.typing.proofs.EnvLaws.{after-is, fields-head}
-use Rattle.typing.specs.First.{GroupsAt}
+use Rattle.typing.specs.Rolls.{OutputsAt}
 use Rattle.findings.specs.Lists.{Placed}
 use Rattle.findings.specs.Finding.{Note}
 use Rattle.findings.specs.Mentions.{states}
@@ -37,7 +37,7 @@ use Rattle.findings.proofs.EachLaws.{Walking, walk-refused, walk-more, 
 -- what the outputs are judged by
 module _ (s outputs names enums : List ℕ) where
   abbrev pub Judged : Type 0
-  Judged = (m : Module) × GroupsAt s outputs (m .outputs) × Agree (envAt s names enums) (forModule m)
+  Judged = (m : Module) × OutputsAt s outputs (m .outputs) × Agree (envAt s names enums) (forModule m)
 
   abbrev pub judgedEmits : Judged → Placed OutputExpr → List Note
   judgedEmits h x = errorEmitNotes (h .0) x

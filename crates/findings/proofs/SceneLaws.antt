@@ -27,13 +27,15 @@ use Rattle.reading.proofs.Views.{transition-at, module-at}
 use Rattle.reading.proofs.ListViews.{list-at}
 use Rattle.typing.specs.Table.{afterItem, afterHead, pairsAt, Past}
 use Rattle.typing.specs.First.{GroupsAt}
+use Rattle.typing.specs.Rolls.{OutputsAt}
 use Rattle.typing.proofs.EnvLaws.{entry, after-is, fields-head}
 use Rattle.typing.proofs.GroupLaws.{groups-at}
-use Rattle.findings.specs.Scene.{rowFrom, endFrom, rowAt, rowEnd, rowsFrom, rowsEnd, rowsOf, rowsAt, RowsFilled, Reads, field, RowAt, Rows, groupsIn, eventsIn, outputsIn, withTable, withGroups, Scene, OpensRest, Opens}
+use Rattle.typing.proofs.BlockLaws.{word-kept}
+use Rattle.findings.specs.Scene.{rowFrom, endFrom, rowAt, rowEnd, rowsFrom, rowsEnd, rowsOf, rowsAt, RowsFilled, Reads, field, RowAt, Rows, groupsIn, eventsIn, outputsIn, withTable, GroupsFilled, Scene, OpensRest, Opens}
 use Rattle.findings.specs.declared.rows.Listed.{Listed}
 use Rattle.findings.proofs.RowLaws.{row-length, sets-append}
 use Rattle.findings.proofs.ClaimTables.{pairs-few}
-use Rattle.findings.proofs.GroupTables.{table-size, table-kept, table-back, table-spared}
+use Rattle.findings.proofs.GroupTables.{table-size, table-kept, table-back, groups-kept}
 
 module _ (s : List ℕ) (B : Bytes s) where
   -- the places of a transition's fields
@@ -166,7 +168,7 @@ module _ (s : List ℕ) (B : Bytes s) where
   reads-there : {A : Type 0} (F : Reader A) {k k′ : ℕ} {x : A} {n : ℕ} → k ≡ k′ → F s k′ ≡ ok x n → Reads F s k x
   reads-there F {n = n} h e = record { end = n; is = ap (F s) h ∙ e }
 
-  scene-is : (places : List ℕ) (at : ℕ) (m : Module) (n : ℕ) (v : ModuleAt s at m n) → ((i : ℕ) → i < 11 → getD places i 0 ≡ getD (placesOf v) i 0) → GroupsAt s (eventsIn places) (m .events) → GroupsAt s (outputsIn places) (m .outputs) → Scene s places m
+  scene-is : (places : List ℕ) (at : ℕ) (m : Module) (n : ℕ) (v : ModuleAt s at m n) → ((i : ℕ) → i < 11 → getD places i 0 ≡ getD (placesOf v) i 0) → GroupsAt s (eventsIn places) (m .events) → OutputsAt s (outputsIn places) (m .outputs) → Scene s places m
   scene-is places at m n v k e o = record {
     name-is = reads-there _ (k 0 (omega arith)) (v .name-is);
     version-is = reads-there _ (k 1 (omega arith)) (v .version-is);
@@ -188,8 +190,7 @@ rest-opened s t o o₁ o₂ o₃ q q₁ {a} {e} {l} e₁ f e₂ pa e₃ pe = rec
 
 -- what open_module leaves
 module _ (s : List ℕ) (at : ℕ) (o₀ o₁ o₄ o₅ q₀ q₁ : List ℕ) (t : ℕ) (r : Listed) where
-  pub opened : 1033 ≤ length o₀ → 2040 ≤ length q₀ → t ≡ rowEnd 8 s at → o₁ ≡ sets o₀ 0 (rowAt 8 s at) → OpensRest s t o₁ q₀ r o₄ q₁ → o₅ ≡ withGroups s o₄ → Opens s at r o₅ q₁
-  unfolding withGroups
+  pub opened : 1544 ≤ length o₀ → 2040 ≤ length q₀ → t ≡ rowEnd 8 s at → o₁ ≡ sets o₀ 0 (rowAt 8 s at) → OpensRest s t o₁ q₀ r o₄ q₁ → GroupsFilled s o₄ o₅ → Opens s at r o₅ q₁
   opened h k et e₁ y e₅ = record {
     of = λ m n g.
         let l = y .listed in
@@ -210,19 +211,17 @@ module _ (s : List ℕ) (at : ℕ) (o₀ o₁ o₄ o₅ q₀ q₁ : List ℕ) (t
         let stands : (i : ℕ) → i < 11 → getD o₄ i 0 ≡ getD (placesOf s B v) i 0 = λ i j. ap (λ (p : List ℕ). getD p i 0) whole ∙ List·getD-append (rowAt 8 s at ++ t ∷ l .end ∷ a ∷ []) _ 0 i (omega (arith, ap length fields)) ∙ ap (λ (p : List ℕ). getD p i 0) fields in
         let size : length o₄ ≡ length o₀ = ap length (y .words) ∙ length-sets o₁ 8 (t ∷ l .end ∷ a ∷ []) ∙ ap length e₁ ∙ length-sets o₀ 0 (rowAt 8 s at) in
         let E = pairsAt s (getD o₄ 5 0) in
-        let O = pairsAt s (getD o₄ 6 0) in
         let few = pairs-few s (getD o₄ 5 0) in
-        let few′ = pairs-few s (getD o₄ 6 0) in
-        let p = withTable o₄ 11 13 E in
-        let long = table-size o₄ 11 13 E few in
-        let kept : (i : ℕ) → i < 11 → getD (withTable p 12 523 O) i 0 ≡ getD o₄ i 0 = λ i j. table-kept p 12 523 O few′ i (omega arith) (λ q. omega arith) ∙ table-kept o₄ 11 13 E few i (omega arith) (λ q. omega arith) in
-        let events : eventsIn (withTable p 12 523 O) ≡ E = table-spared p 12 523 O 13 (getD (withTable p 12 523 O) 11 0) (omega arith) (omega arith) ∙ ap (groupsIn p 13) (table-kept p 12 523 O few′ 11 (omega arith) (λ q. omega arith)) ∙ table-back o₄ 11 13 E few (omega arith) (omega arith) in
-        let outputs : outputsIn (withTable p 12 523 O) ≡ O = table-back p 12 523 O few′ (omega arith) (omega arith) in
+        let p = withTable o₄ 11 12 E in
+        let long = table-size o₄ 11 12 E few in
+        let same : (i : ℕ) → i < 522 → getD o₅ i 0 ≡ getD p i 0 = word-kept p o₅ 522 (e₅ .kept) in
+        let kept : (i : ℕ) → i < 11 → getD o₅ i 0 ≡ getD o₄ i 0 = λ i j. same i (omega arith) ∙ table-kept o₄ 11 12 E few i (omega arith) (λ q. omega arith) in
+        let events : eventsIn o₅ ≡ E = groups-kept p o₅ (omega arith) (e₅ .kept) ∙ table-back o₄ 11 12 E few (omega arith) (omega arith) in
         let c = groups-at s B (getD o₄ 5 0) (m .events) _ (ap (listOf maxList readConstructorGroup s) (stands 5 (omega arith)) ∙ v .events-is) in
-        let d = groups-at s B (getD o₄ 6 0) (m .outputs) _ (ap (listOf maxList readConstructorGroup s) (stands 6 (omega arith)) ∙ v .outputs-is) in
+        let d = e₅ .outputs .of B (m .outputs) _ (ap (listOf maxList readConstructorGroup s) (stands 6 (omega arith)) ∙ v .outputs-is) in
         record {
           bytes = B;
-          scene = rw e₅ (scene-is s B (withTable p 12 523 O) at m n v (λ i j. kept i j ∙ stands i j) (rw events c) (rw outputs d));
+          scene = scene-is s B o₅ at m n v (λ i j. kept i j ∙ stands i j) (rw events c) d;
           rows-are = w .rows;
           count = y .count ∙ w .count;
           end = end;

@@ -30,7 +30,8 @@ use Rattle.typing.specs.declared.table.Found.{Found}
 use Rattle.findings.specs.declared.transition.Judged.{Judged}
 use Rattle.findings.specs.Lists.{Placed, placed, each}
 use Rattle.findings.specs.Finding.{Note, note, noted, caused, blamed, typeCause}
-use Rattle.typing.specs.First.{enumName, GroupsAt}
+use Rattle.typing.specs.First.{enumName}
+use Rattle.typing.specs.Rolls.{OutputsAt}
 use Rattle.typing.specs.Lanes.{print}
 use Rattle.findings.specs.Mentions.{enumVariants, states}
 use Rattle.findings.specs.Errors.{unknownState, isEmpty, initialNotes, versionNotes, initNotes, opening, guardNotes, setNotes, emitNotes, bodyNotes, own, errorEmitNotes, onErrorNotes, propertyName, repeatNotes, formulaNotes}
@@ -114,13 +115,13 @@ module _ (s : List ℕ) (owner : ℕ) (o : List ℕ) (skip n r : ℕ) (o′ : Li
 
   -- an output, with the words that its note has
   pub record NotesOutput (at : ℕ) (outputs names enums : List ℕ) (site first second : ℕ) : Type 0 where
-    pub of : (x : OutputExpr) (gs : List ConstructorGroup) (env : Env) → Reads readOutputExpr s at x → GroupsAt s outputs gs → Agree (envAt s names enums) env → Notes (blamed (λ c. note site first second c) (validateOutputExpr gs env x))
+    pub of : (x : OutputExpr) (gs : List ConstructorGroup) (env : Env) → Reads readOutputExpr s at x → OutputsAt s outputs gs → Agree (envAt s names enums) env → Notes (blamed (λ c. note site first second c) (validateOutputExpr gs env x))
 
   pub record NotesEmits (at i : ℕ) (outputs names enums : List ℕ) : Type 0 where
-    pub of : (xs : List OutputExpr) (gs : List ConstructorGroup) (env : Env) → Reads (listOf maxList readOutputExpr) s at xs → GroupsAt s outputs gs → Agree (envAt s names enums) env → Notes (each (emitNotes env gs i) (placed 0 xs))
+    pub of : (xs : List OutputExpr) (gs : List ConstructorGroup) (env : Env) → Reads (listOf maxList readOutputExpr) s at xs → OutputsAt s outputs gs → Agree (envAt s names enums) env → Notes (each (emitNotes env gs i) (placed 0 xs))
 
   pub record NotesBody (rows : List ℕ) (i : ℕ) (outputs vars names enums : List ℕ) : Type 0 where
-    pub of : (t : Transition) (gs : List ConstructorGroup) (env : Env) → RowAt s rows i t → GroupsAt s outputs gs → Agree (envAt s names enums) env → Known s vars env → Notes (bodyNotes env gs (at-place i t))
+    pub of : (t : Transition) (gs : List ConstructorGroup) (env : Env) → RowAt s rows i t → OutputsAt s outputs gs → Agree (envAt s names enums) env → Known s vars env → Notes (bodyNotes env gs (at-place i t))
 
   -- sites 6 to 8, by the number of what is wrong with the pattern
   pub record NotesHeads (rows prints : List ℕ) (i : ℕ) (variants : List ℕ) (cause : ℕ) : Type 0 where
@@ -143,10 +144,10 @@ module _ (s : List ℕ) (owner : ℕ) (o : List ℕ) (skip n r : ℕ) (o′ : Li
 
   -- sites 16 and 17
   pub record NotesErrorEmits (at : ℕ) (outputs names enums : List ℕ) : Type 0 where
-    pub of : (xs : List OutputExpr) (m : Module) → Reads (listOf maxList readOutputExpr) s at xs → GroupsAt s outputs (m .outputs) → Agree (envAt s names enums) (forModule m) → Notes (each (errorEmitNotes m) (placed 0 xs))
+    pub of : (xs : List OutputExpr) (m : Module) → Reads (listOf maxList readOutputExpr) s at xs → OutputsAt s outputs (m .outputs) → Agree (envAt s names enums) (forModule m) → Notes (each (errorEmitNotes m) (placed 0 xs))
 
   pub record NotesOnError (at : ℕ) (found : Found) (outputs names enums : List ℕ) : Type 0 where
-    pub of : (e : Option OnError) (m : Module) → Reads (optional readOnError) s at e → StatesAt s found (states m) → GroupsAt s outputs (m .outputs) → Agree (envAt s names enums) (forModule m) → Notes (onErrorNotes m e)
+    pub of : (e : Option OnError) (m : Module) → Reads (optional readOnError) s at e → StatesAt s found (states m) → OutputsAt s outputs (m .outputs) → Agree (envAt s names enums) (forModule m) → Notes (onErrorNotes m e)
 
 -- a table of properties: pairs of the places of a name and of its formula
 pub record ClaimAt (s table : List ℕ) (i : ℕ) (p : Property) : Type 0 where

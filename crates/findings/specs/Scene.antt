@@ -17,6 +17,7 @@ use Rattle.reading.specs.Transition.{Transition, readTopExpr, readOutputExpr, r
 use Rattle.reading.specs.Module.{Module, readProperty, readModule}
 use Rattle.typing.specs.Table.{afterItem, afterHead, pairsAt, Past}
 use Rattle.typing.specs.First.{GroupsAt}
+use Rattle.typing.specs.Rolls.{OutputsAt, FillsOutputs}
 use Rattle.findings.specs.declared.rows.Listed.{Listed}
 use Rattle.typing.specs.declared.table.Found.{Found}
 use Rattle.typing.specs.declared.table.Found.the-variants.{At, Nothing}
@@ -91,21 +92,24 @@ pub record RowAt (s rows : List ℕ) (i : ℕ) (t : Transition) : Type 0 where
 pub record Rows (s rows : List ℕ) (ts : List Transition) : Type 0 where
   pub at : (i : ℕ) (t : Transition) → getElem? ts i ≡ some t → RowAt s rows i t
 
--- behind the places of a module's eleven fields: how many words the tables of its groups of events and of outputs take, and the tables
+-- behind the places of a module's eleven fields: how many words the table of its groups of events takes, that table, and the table of its outputs
 abbrev pub groupsIn : List ℕ → ℕ → ℕ → List ℕ
 groupsIn places from words = take words (take 510 (drop from places))
 
 abbrev pub eventsIn : List ℕ → List ℕ
-eventsIn places = groupsIn places 13 (getD places 11 0)
+eventsIn places = groupsIn places 12 (getD places 11 0)
 
 abbrev pub outputsIn : List ℕ → List ℕ
-outputsIn places = groupsIn places 523 (getD places 12 0)
+outputsIn places = drop 522 places
 
 unfoldable pub withTable : List ℕ → ℕ → ℕ → List ℕ → List ℕ
 withTable places w from table = set (sets places from table) w (length table)
 
-unfoldable pub withGroups : List ℕ → List ℕ → List ℕ
-withGroups s places = withTable (withTable places 11 13 (pairsAt s (getD places 5 0))) 12 523 (pairsAt s (getD places 6 0))
+-- a table of places after both were filled
+pub record GroupsFilled (s places places′ : List ℕ) : Type 0 where
+  pub kept : take 522 places′ ≡ take 522 (withTable places 11 12 (pairsAt s (getD places 5 0)))
+  pub before : List ℕ
+  pub outputs : FillsOutputs s (getD places 6 0) before (outputsIn places′)
 
 -- the places of a module's fields, in the order of ir.rs, and its groups
 pub record Scene (s places : List ℕ) (m : Module) : Type 0 where
@@ -121,7 +125,7 @@ pub record Scene (s places : List ℕ) (m : Module) : Type 0 where
   pub properties-are : Reads (listOf maxList readProperty) s (getD places 9 0) (m .properties)
   pub assumptions-are : Reads (listOf maxList readProperty) s (getD places 10 0) (m .assumptions)
   pub event-groups : GroupsAt s (eventsIn places) (m .events)
-  pub output-groups : GroupsAt s (outputsIn places) (m .outputs)
+  pub output-groups : OutputsAt s (outputsIn places) (m .outputs)
 
 -- the variants of the first enum called State stand at a place; there are none where there is no such enum
 pub data StatesAt (s : List ℕ) : Found → List Name → Type 0 where

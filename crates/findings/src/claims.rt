@@ -1,5 +1,4 @@
 // Sites 18 to 20: properties and assumptions, by a table of the places of each one's name and formula.
-use crate::rows::word;
 use crate::sheet::emit_cause;
 use crate::sheet::emit_if;
 use reading::text_at;
@@ -9,6 +8,7 @@ use typing::fit_number;
 use typing::lane_add;
 use typing::lane_find;
 use typing::type_formula;
+use typing::word;
 ghost use mathlib.Core.Path.{_≡_};
 ghost use Prim.Native.Nat.{_+_, _≤_, _^_};
 ghost use lib.ListN.{length};

@@ -48,7 +48,6 @@ pub use rows::Listed;
 pub use rows::events_of;
 pub use rows::field;
 pub use rows::outputs_of;
-pub use rows::word;
 pub use transition::Judged;
 pub use transition::judge_pattern;
 pub use whole::Ready;

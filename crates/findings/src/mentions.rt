@@ -1,6 +1,5 @@
 // Names mentioned by transitions and on_error: in guards, in the arguments of outputs, and the variables that are set.
 use crate::rows::field;
-use crate::rows::word;
 use crate::touch::touch;
 use crate::touch::touch_expr;
 use reading::Answer;
@@ -9,6 +8,7 @@ use reading::text_at;
 use typing::after;
 use typing::after_head;
 use typing::null_at;
+use typing::word;
 ghost use Prim.Native.Nat.{_/_};
 ghost use lib.ListN.{length};
 ghost use Rattle.reading.specs.Transition.{readTopExpr, readOnError};

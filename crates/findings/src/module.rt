@@ -6,17 +6,18 @@ use crate::rows::Listed;
 use crate::rows::fill_row;
 use crate::rows::fill_rows;
 use crate::rows::outputs_of;
-use crate::rows::word;
 use typing::Found;
 use typing::after;
 use typing::fill_block;
 use typing::fill_enums;
+use typing::fill_outputs;
 use typing::fill_table;
 use typing::store;
+use typing::word;
 ghost use mathlib.Core.Path.{_≡_};
 ghost use Prim.Native.Nat.{_+_, _≤_, _^_};
 ghost use lib.ListN.{length};
-ghost use Rattle.findings.specs.Scene.{withTable, withGroups, OpensRest, Opens};
+ghost use Rattle.findings.specs.Scene.{withTable, GroupsFilled, OpensRest, Opens};
 ghost use Rattle.typing.specs.Table.{pairsAt};
 ghost use Rattle.findings.specs.Promises.{ClaimsSet};
 ghost use Rattle.findings.specs.ModulePromises.{Names, NotesClosing};
@@ -31,15 +32,16 @@ fn fill_group(doc: &[u8], at: usize, places: &mut [usize], w: usize, from: usize
     store(places, w, many);
 }
 
-// The tables of groups behind the places of a module's fields.
+// The tables of events and of outputs behind the places of a module's fields.
 fn fill_groups(doc: &[u8], places: &mut [usize])
-    requires { ⌜ 1033 ≤ length (now places) ⌝ }
-    ensures { λ _. ⌜ now (places .exit) ≡ withGroups (now (doc .entry)) (now (places .entry)) ⌝ }
+    requires { ⌜ 1544 ≤ length (now places) ⌝ }
+    ensures { λ _. ⌜ GroupsFilled (now (doc .entry)) (now (places .entry)) (now (places .exit)) ⌝ }
 {
     let events = word(places, 5);
     let outputs = word(places, 6);
-    fill_group(doc, events, places, 11, 13);
-    fill_group(doc, outputs, places, 12, 523);
+    fill_group(doc, events, places, 11, 12);
+    let end = places.len();
+    fill_outputs(doc, outputs, &mut places[522..end]);
 }
 
 // The places of a module's last three fields, the first of which is known, and of its transitions' fields; how many transitions there are,
@@ -61,7 +63,7 @@ fn open_rest(doc: &[u8], transitions: usize, places: &mut [usize], rows: &mut [u
 
 // Fills the tables of the module at a place: the places of its fields with its groups, and the places of its transitions' fields.
 pub fn open_module(doc: &[u8], at: usize, places: &mut [usize], rows: &mut [usize]) -> Listed
-    requires { ⌜ 1033 ≤ length (now places) ⌝ }
+    requires { ⌜ 1544 ≤ length (now places) ⌝ }
     requires { ⌜ 2040 ≤ length (now rows) ⌝ }
     ensures { λ r. ⌜ Opens (now (doc .entry)) at r (now (places .exit)) (now (rows .exit)) ⌝ }
 {

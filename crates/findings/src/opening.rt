@@ -1,6 +1,5 @@
 // Sites 1 to 5: the State variants, the initial state, the version, and the first values of the variables.
 use crate::cause::note_typed;
-use crate::rows::word;
 use crate::sheet::emit_if;
 use crate::states::no_states;
 use crate::states::note_state;
@@ -13,6 +12,7 @@ use typing::after_expr;
 use typing::after_head;
 use typing::is_valid_version_format;
 use typing::null_at;
+use typing::word;
 ghost use Prim.Native.Nat.{_+_, _≤_, _^_};
 ghost use Rattle.findings.specs.Promises.{InitAt, NotesInitial, NotesVersion, NotesInits, NotesOpening};
 

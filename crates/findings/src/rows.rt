@@ -4,6 +4,7 @@ use reading::Cursor;
 use typing::after;
 use typing::after_head;
 use typing::store;
+use typing::word;
 ghost use mathlib.Core.Path.{_≡_};
 ghost use mathlib.Core.List.{[], _∷_};
 ghost use Prim.Native.Nat.{_<_, _≤_};
@@ -11,16 +12,6 @@ ghost use lib.ListN.{length, getD, take, drop};
 ghost use lib.Seq.{sets};
 ghost use Rattle.findings.specs.Scene.{rowFrom, endFrom, rowAt, rowEnd, field, groupsIn, eventsIn, outputsIn, PastBare, RowsFilled};
 ghost use Rattle.typing.specs.Table.{Past};
-
-// A word of a table; 0 past its end.
-pub fn word(table: &[usize], j: usize) -> usize
-    ensures { λ r. ⌜ r ≡ getD (now (table .entry)) j 0 ⌝ }
-{
-    if j < table.len() {
-        return table[j];
-    }
-    0
-}
 
 // At most so many words of a table, from its start on.
 fn front(table: &[usize], words: usize) -> &[usize]
@@ -56,14 +47,14 @@ pub fn events_of(places: &[usize]) -> &[usize]
     ensures { λ r. ⌜ now r ≡ eventsIn (now (places .entry)) ⌝ }
     ensures { λ r. ⌜ length (now r) ≤ 510 ⌝ }
 {
-    groups_in(places, 13, word(places, 11))
+    groups_in(places, 12, word(places, 11))
 }
 
-// Its groups of outputs.
+// Its table of outputs.
 pub fn outputs_of(places: &[usize]) -> &[usize]
     ensures { λ r. ⌜ now r ≡ outputsIn (now (places .entry)) ⌝ }
 {
-    groups_in(places, 523, word(places, 12))
+    back(places, 522)
 }
 
 // The place of a field of transition i.

@@ -2,10 +2,10 @@
 use crate::lanes::add_all;
 use crate::mentions::touch_all;
 use crate::once::touch_once;
-use crate::rows::word;
 use crate::sheet::emit_if;
 use crate::touch::is_free;
 use typing::fill_table;
+use typing::word;
 ghost use mathlib.Core.Path.{_≡_};
 ghost use Prim.Native.Nat.{_+_, _≤_, _^_};
 ghost use lib.ListN.{length, replicate};

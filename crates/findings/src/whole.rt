@@ -4,7 +4,6 @@ use crate::module::fill_names;
 use crate::module::open_module;
 use crate::prints::fill_prints;
 use crate::rows::Listed;
-use crate::rows::word;
 use crate::states::first_states;
 use crate::warnings::note_warnings;
 use reading::Answer;
@@ -12,6 +11,7 @@ use reading::Cursor;
 use typing::Found;
 use typing::after;
 use typing::after_head;
+use typing::word;
 ghost use mathlib.Core.Path.{_≡_};
 ghost use Prim.Native.Nat.{_+_, _-_, _≤_, _^_};
 ghost use lib.ListN.{length, getD, take};
@@ -153,7 +153,7 @@ fn open_printed(
     rows: &mut [usize],
     prints: &mut [u32],
 ) -> Listed
-    requires { ⌜ 1033 ≤ length (now places) ⌝ }
+    requires { ⌜ 1544 ≤ length (now places) ⌝ }
     requires { ⌜ 2040 ≤ length (now rows) ⌝ }
     requires { ⌜ 768 ≤ length (now prints) ⌝ }
     ensures { λ r. ⌜ Opens (now (doc .entry)) at r (now (places .exit)) (now (rows .exit)) ⌝ }
@@ -270,7 +270,7 @@ fn walk_module(
     leave: usize,
     k: usize,
 ) -> Passed
-    requires { ⌜ 1033 ≤ length (now places) ⌝ }
+    requires { ⌜ 1544 ≤ length (now places) ⌝ }
     requires { ⌜ 2040 ≤ length (now rows) ⌝ }
     requires { ⌜ 768 ≤ length (now prints) ⌝ }
     requires { ⌜ 1658 ≤ length (now table) ⌝ }
@@ -324,7 +324,7 @@ fn walk_modules(
     leave: usize,
     k: usize,
 ) -> Totals
-    requires { ⌜ 1033 ≤ length (now places) ⌝ }
+    requires { ⌜ 1544 ≤ length (now places) ⌝ }
     requires { ⌜ 2040 ≤ length (now rows) ⌝ }
     requires { ⌜ 768 ≤ length (now prints) ⌝ }
     requires { ⌜ 1658 ≤ length (now table) ⌝ }
@@ -390,7 +390,7 @@ pub(crate) fn walk_all(
     ensures { λ r. ⌜ r .errors ≤ n + 532733824 ⌝ }
     ensures { λ r. ⌜ r .warnings ≤ k + 531656640 ⌝ }
 {
-    let mut places = [0usize; 1033];
+    let mut places = [0usize; 1544];
     let mut rows = [0usize; 2040];
     let mut prints = [0u32; 768];
     let mut table = [0usize; 1658];

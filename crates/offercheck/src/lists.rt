@@ -24,7 +24,7 @@ fn print_list<'a>(
 ) -> usize
     requires { ⌜ length (now doc) ≤ 0xffff ⌝ }
     requires { ⌜ all ≤ 0xffff ⌝ }
-    requires { ⌜ 1033 ≤ length (now places) ⌝ }
+    requires { ⌜ 1544 ≤ length (now places) ⌝ }
     requires { ⌜ 2040 ≤ length (now rows) ⌝ }
     requires { ⌜ 1658 ≤ length (now table) ⌝ }
     requires { ⌜ 829 ≤ length (now enums) ⌝ }
@@ -67,7 +67,7 @@ pub(crate) fn print_lists<'a>(
     requires { ⌜ e ≤ 0xffff ⌝ }
     requires { ⌜ w ≤ 0xffff ⌝ }
 {
-    let mut places = [0usize; 1033];
+    let mut places = [0usize; 1544];
     let mut rows = [0usize; 2040];
     let mut table = [0usize; 1658];
     let mut enums = [0usize; 2365];

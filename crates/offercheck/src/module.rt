@@ -181,7 +181,7 @@ fn print_at<'a>(
     requires { ⌜ all ≤ 0xffff ⌝ }
     requires { ⌜ from .next < all ⌝ }
     requires { ⌜ from .at ≤ 0xc000 ⌝ }
-    requires { ⌜ 1033 ≤ length (now places) ⌝ }
+    requires { ⌜ 1544 ≤ length (now places) ⌝ }
     requires { ⌜ 2040 ≤ length (now rows) ⌝ }
     requires { ⌜ 1658 ≤ length (now table) ⌝ }
     requires { ⌜ 829 ≤ length (now enums) ⌝ }
@@ -231,7 +231,7 @@ pub(crate) fn print_module<'a>(
     requires { ⌜ all ≤ 0xffff ⌝ }
     requires { ⌜ from .next < all ⌝ }
     requires { ⌜ from .at ≤ 0xc000 ⌝ }
-    requires { ⌜ 1033 ≤ length (now places) ⌝ }
+    requires { ⌜ 1544 ≤ length (now places) ⌝ }
     requires { ⌜ 2040 ≤ length (now rows) ⌝ }
     requires { ⌜ 1658 ≤ length (now table) ⌝ }
     requires { ⌜ 829 ≤ length (now enums) ⌝ }

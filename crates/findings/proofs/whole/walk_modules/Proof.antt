@@ -11,7 +11,7 @@ use Rattle.findings.proofs.whole.walk_modules.Tie as tie
 
 abbrev Inv-loop : tie.InvT-loop
 Inv-loop doc at places₀ rows₀ prints₀ table₀ enums₀ claims₀ out₀ skip n aside₀ leave k count here₀ errors₀ warnings₀ i₀ places rows prints table enums claims out aside here errors warnings i =
-    (1033 ≤ length places) × (2040 ≤ length rows) × (768 ≤ length prints) × (1020 ≤ length table) × (510 ≤ length enums) × (length claims ≡ 1020)
+    (1544 ≤ length places) × (2040 ≤ length rows) × (768 ≤ length prints) × (1020 ≤ length table) × (510 ≤ length enums) × (length claims ≡ 1020)
     × (length places ≡ length places₀) × (length rows ≡ length rows₀) × (length prints ≡ length prints₀) × (length table ≡ length table₀) × (length enums ≡ length enums₀) × (length claims ≡ length claims₀) × (length out ≡ length out₀) × (length aside ≡ length aside₀)
     × (n + 532733824 ≤ 2 ^ 40) × (k + 531656640 ≤ 2 ^ 40) × (count ≤ 16) × (i ≤ count) × (errors ≤ n + 33295864 * i) × (warnings ≤ k + 33228540 * i)
     × Going doc at out₀ skip n aside₀ leave k count here i errors out warnings aside
