@@ -11,9 +11,9 @@ use Rattle.reading.specs.Module.{Module}
 use Rattle.findings.proofs.GroupTables.{front-cut}
 use Rattle.text.specs.Put.{Put}
 use Rattle.findings.specs.Scene.{Scene}
-use Rattle.text.specs.Message.{Saying, saying, sayingText, setSaid, prioritySaid, pairSaid, claimSaid, eventSaid, varSaid}
+use Rattle.text.specs.Message.{Saying, saying, sayingText, setSaid, prioritySaid, pairSaid, claimSaid, formulaSaid, eventSaid, varSaid}
 use Rattle.text.specs.Said.{sayingOf}
-use Rattle.text.specs.Says.{WithRows, WithClaims, Warned, Named, Says, SaysWarning, PutsSaid, PutsFinding}
+use Rattle.text.specs.Says.{WithRows, WithOwn, WithClaims, WithFormulas, Warned, Named, Says, SaysWarning, PutsSaid, PutsFinding}
 use Rattle.text.specs.declared.said.Said.{Said}
 use Rattle.text.proofs.SayLaws.{warned, with-rows}
 
@@ -74,6 +74,9 @@ module _ (s places rows : List ℕ) (count i j : ℕ) where
       unfolding saying
       finding-11 = finding-of Known Row s site i j (setSaid i j) 11 (λ m h. with-rows (warned h)) (λ m. refl)
 
+      pub finding-13 : PutsSaid (Says (WithOwn s places rows count (take 829 table) enums) s (saying 13 i j)) s 13 o at r o′ → site ≡ 13 → PutsFinding Known site i j o at r o′
+      finding-13 = finding-of Known (WithOwn s places rows count (take 829 table) enums) s site i j (saying 13 i j) 13 (λ m h. (with-rows (warned h), h .agree)) (λ m. refl)
+
       pub finding-14 : PutsSaid (Says Row s (prioritySaid i j)) s 14 o at r o′ → site ≡ 14 → PutsFinding Known site i j o at r o′
       unfolding saying
       finding-14 = finding-of Known Row s site i j (prioritySaid i j) 14 (λ m h. with-rows (warned h)) (λ m. refl)
@@ -85,6 +88,10 @@ module _ (s places rows : List ℕ) (count i j : ℕ) where
       pub finding-18 : PutsSaid (Says (WithClaims s places (take (known .claims - 0) properties)) s (claimSaid i)) s 18 o at r o′ → site ≡ 18 → PutsFinding Known site i j o at r o′
       unfolding saying
       finding-18 p = finding-of Known (WithClaims s places (take (known .claims) properties)) s site i j (claimSaid i) 18 (λ m h. (h .scene, h .claims-are)) (λ m. refl) (rw (sym (front-cut properties (known .claims))) p)
+
+      pub finding-19 : PutsSaid (Says (WithFormulas s places (take (known .claims - 0) properties) (take 829 table) enums) s (formulaSaid i)) s 19 o at r o′ → site ≡ 19 → PutsFinding Known site i j o at r o′
+      unfolding saying
+      finding-19 p = finding-of Known (WithFormulas s places (take (known .claims) properties) (take 829 table) enums) s site i j (formulaSaid i) 19 (λ m h. ((h .scene, h .agree), (h .scene, h .claims-are))) (λ m. refl) (rw (sym (front-cut properties (known .claims))) p)
 
       pub finding-warning : PutsFinding (Warned s places rows count (known .found)) site i j o at r o′ → PutsFinding Known site i j o at r o′
       finding-warning p = record { of = λ m h. p .of m (warned h) }

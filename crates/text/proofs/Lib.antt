@@ -22,6 +22,8 @@ pub mod VariantLaws
 pub mod SayLaws
 pub mod PieceLaws
 pub mod ListedLaws
+pub mod CauseLaws
+pub mod BlamedLaws
 pub mod WordsLaws
 pub mod ToldLaws
 pub mod FindingLaws

@@ -31,10 +31,10 @@ use Rattle.text.proofs.SetLaws.{set-said}
 use Rattle.text.proofs.SayLaws.{set-there}
 
 -- an argument with p before it and q behind it
-abbrev around : List ℕ → List ℕ → List ℕ
+abbrev pub around : List ℕ → List ℕ → List ℕ
 around p q = p ++ (text "{}" ++ q)
 
-around-is : (p a q : List ℕ) (as′ : List (List ℕ)) → plain p ≡ true → plain q ≡ true → format (around p q) (a ∷ as′) ≡ p ++ a ++ q
+pub around-is : (p a q : List ℕ) (as′ : List (List ℕ)) → plain p ≡ true → plain q ≡ true → format (around p q) (a ∷ as′) ≡ p ++ a ++ q
 around-is p a q as′ g l = format-arg p q a as′ g ∙ ap (λ (x : List ℕ). p ++ (a ++ x)) (format-end q as′ l) ∙ sym (append-assoc p a q)
 
 in-module : (n f : List ℕ) (as′ : List (List ℕ)) → format (text "module '{}" ++ f) (n ∷ as′) ≡ inModule n ++ format f as′
@@ -44,7 +44,7 @@ in-module n f as′ = format-arg (text "module '") f n as′ refl ∙ sym (appen
 joined : (h p a f : List ℕ) → h ++ (p ++ (a ++ f)) ≡ h ++ p ++ a ++ f
 joined h p a f = simp append-assoc
 
-in-transition : (n i f : List ℕ) (as′ : List (List ℕ)) → format (text "module '{}' transition #{}" ++ f) (n ∷ i ∷ as′) ≡ inTransition n i ++ format f as′
+pub in-transition : (n i f : List ℕ) (as′ : List (List ℕ)) → format (text "module '{}' transition #{}" ++ f) (n ∷ i ∷ as′) ≡ inTransition n i ++ format f as′
 unfolding plain inTransition
 in-transition n i f as′ =
     in-module n (text "' transition #{}" ++ f) (i ∷ as′)
@@ -53,19 +53,25 @@ in-transition n i f as′ =
 
 -- an entry's message is put in two pieces
 module _ (s : List ℕ) (k n t : ℕ) {o o₁ o₂ p q : List ℕ} {at r₁ r₂ : ℕ} (b : PutWithin o₁ r₁ p (textAt s t) q r₂ o₂) where
+  pub entry-formed : Put o at (inModule (textAt s n)) r₁ o₁
+      → siteForm k ≡ text "module '{}" ++ around p q
+      → plain p ≡ true
+      → plain q ≡ true
+      → Put o at (format (siteForm k) (textAt s n ∷ textAt s t ∷ [] ∷ [] ∷ [] ∷ [])) r₂ o₂
+  entry-formed a u g l =
+      put-is (
+      ap (λ (f : List ℕ). format f (textAt s n ∷ textAt s t ∷ [] ∷ [] ∷ [] ∷ [])) u
+      ∙ in-module (textAt s n) (around p q) (textAt s t ∷ [] ∷ [] ∷ [] ∷ [])
+      ∙ ap (λ (x : List ℕ). inModule (textAt s n) ++ x) (around-is p (textAt s t) q ([] ∷ [] ∷ [] ∷ []) g l))
+      (a then b .put)
+
   pub entry-told : Put o at (inModule (textAt s n)) r₁ o₁
       → siteForm k ≡ text "module '{}" ++ around p q
       → plain p ≡ true
       → plain q ≡ true
       → Put o at (sayingText k (sayingOf s (Line (Name n) (Name t) Blank Blank Blank blame.Nothing))) r₂ o₂
   unfolding sayingText sayingOf shown blameOf blameText
-  entry-told a u g l =
-      put-is (
-      append-nil _
-      ∙ ap (λ (f : List ℕ). format f (textAt s n ∷ textAt s t ∷ [] ∷ [] ∷ [] ∷ [])) u
-      ∙ in-module (textAt s n) (around p q) (textAt s t ∷ [] ∷ [] ∷ [] ∷ [])
-      ∙ ap (λ (x : List ℕ). inModule (textAt s n) ++ x) (around-is p (textAt s t) q ([] ∷ [] ∷ [] ∷ []) g l))
-      (a then b .put)
+  entry-told a u g l = put-is (append-nil _) (entry-formed a u g l)
 
   pub set-told : (i : ℕ) → Put o at (inTransition (textAt s n) (decimal i)) r₁ o₁
       → siteForm k ≡ text "module '{}' transition #{}" ++ around p q

@@ -3,15 +3,41 @@ use crate::form::put_one;
 use crate::form::put_three;
 use crate::form::put_two;
 use crate::form::put_words;
+use crate::out::put_bytes;
 use crate::said::Arg;
+use crate::shown::put_name;
+use crate::shown::put_type;
 use typing::Blame;
 use typing::Cause;
+use typing::Ty;
 use typing::Within;
 ghost use Prim.Native.Nat.{_+_, _≤_};
 ghost use lib.ListN.{length};
 ghost use Rattle.typing.specs.Means.{causeOf, withinOf, blameOf};
+ghost use Rattle.typing.specs.declared.cause.Cause.the-variants.{UnknownIdentifier, TypeMismatch};
 ghost use Rattle.text.specs.Put.{Put};
 ghost use Rattle.text.specs.CauseText.{causeText, withinText, blameText};
+
+// Puts that a name is unknown.
+fn put_identifier(out: &mut [u8], at: usize, doc: &[u8], name: usize) -> usize
+    requires { ⌜ (at ≤ 0x400_0000) × (length (now doc) ≤ 0xffff) ⌝ }
+    ensures { λ r. ⌜ Put (now (out .entry)) at (causeText (causeOf (now (doc .entry)) (UnknownIdentifier name))) r (now (out .exit)) ⌝ }
+    ensures { λ r. ⌜ r ≤ at + 0x29_0000 ⌝ }
+{
+    put_name(out, at, doc, b"unknown identifier '", name, b"'")
+}
+
+// Puts that two types differ.
+fn put_mismatch(out: &mut [u8], at: usize, doc: &[u8], a: Ty, b: Ty) -> usize
+    requires { ⌜ (at ≤ 0x400_0000) × (length (now doc) ≤ 0xffff) ⌝ }
+    ensures { λ r. ⌜ Put (now (out .entry)) at (causeText (causeOf (now (doc .entry)) (TypeMismatch a b))) r (now (out .exit)) ⌝ }
+    ensures { λ r. ⌜ r ≤ at + 0x29_0000 ⌝ }
+{
+    let k = put_bytes(out, at, b"type mismatch: ");
+    let n = put_type(out, k, doc, a);
+    let m = put_bytes(out, n, b" vs ");
+    put_type(out, m, doc, b)
+}
 
 // Puts a cause.
 pub(crate) fn put_cause(out: &mut [u8], at: usize, doc: &[u8], c: Cause) -> usize
@@ -132,13 +158,7 @@ pub(crate) fn put_cause(out: &mut [u8], at: usize, doc: &[u8], c: Cause) -> usiz
         Cause::BitNot => put_words(out, at, doc, b"bit_not requires bitvector"),
         Cause::Negation => put_words(out, at, doc, b"negation requires bitvector"),
         Cause::EmptyPath => put_words(out, at, doc, b"empty path"),
-        Cause::UnknownIdentifier(n) => put_one(
-            out,
-            at,
-            doc,
-            b"unknown identifier '{}'",
-            Arg::Name(n),
-        ),
+        Cause::UnknownIdentifier(n) => put_identifier(out, at, doc, n),
         Cause::UnknownEnum(e) => put_one(out, at, doc, b"unknown enum type '{}'", Arg::Name(e)),
         Cause::UnknownVariant(v, e) => put_two(
             out,
@@ -177,14 +197,7 @@ pub(crate) fn put_cause(out: &mut [u8], at: usize, doc: &[u8], c: Cause) -> usiz
             b"bitwise/arithmetic operator requires bitvector operands",
         ),
         Cause::IntegerAsBool => put_words(out, at, doc, b"integer literal cannot be used as bool"),
-        Cause::TypeMismatch(a, b) => put_two(
-            out,
-            at,
-            doc,
-            b"type mismatch: {} vs {}",
-            Arg::Debug(a),
-            Arg::Debug(b),
-        ),
+        Cause::TypeMismatch(a, b) => put_mismatch(out, at, doc, a, b),
         Cause::BindingInFormula => put_words(
             out,
             at,
@@ -202,8 +215,8 @@ pub(crate) fn put_within(out: &mut [u8], at: usize, doc: &[u8], w: Within) -> us
 {
     match w {
         Within::Alone => at,
-        Within::Field(n) => put_one(out, at, doc, b"field '{}': ", Arg::Name(n)),
-        Within::Arg(n) => put_one(out, at, doc, b"arg for '{}': ", Arg::Name(n)),
+        Within::Field(n) => put_name(out, at, doc, b"field '", n, b"': "),
+        Within::Arg(n) => put_name(out, at, doc, b"arg for '", n, b"': "),
     }
 }
 

@@ -2,6 +2,8 @@
 use crate::aft::variants_of;
 use crate::entry::Near;
 use crate::entry::look_up;
+use crate::judged::put_emit_at;
+use crate::judged::put_formula_at;
 use crate::listed::put_claim_at;
 use crate::listed::put_event_at;
 use crate::listed::put_set_at;
@@ -13,10 +15,10 @@ use crate::site::put_said;
 use crate::words::say_named;
 use findings::Ready;
 use findings::field;
-use findings::word;
 use typing::Found;
 use typing::after;
 use typing::after_head;
+use typing::word;
 ghost use mathlib.Core.Path.{_≡_};
 ghost use Prim.Native.Nat.{_+_, _≤_};
 ghost use lib.ListN.{length, take};
@@ -99,6 +101,14 @@ pub fn put_finding<'a>(
     if site == 18 {
         let b = known.claims;
         return put_claim_at(doc, places, &claims[0..b], i, out, at);
+    }
+    if site == 13 {
+        return put_emit_at(doc, places, rows, count, table, enums, i, j, near, out, at);
+    }
+    if site == 19 {
+        let b = known.claims;
+        let names = &table[0..829];
+        return put_formula_at(doc, places, &claims[0..b], names, enums, i, out, at);
     }
     if 20 < site {
         let found = known.found;

@@ -9,6 +9,7 @@ mod entry;
 mod finding;
 mod fore;
 mod form;
+mod judged;
 mod listed;
 mod out;
 mod pair;

@@ -5,12 +5,13 @@ use crate::decimal::put_decimal;
 use crate::entry::Near;
 use crate::entry::entry_at;
 use crate::out::put_bytes;
+use crate::shown::put_name;
 use crate::shown::put_text;
 use findings::field;
-use findings::word;
 use typing::Found;
 use typing::after_head;
 use typing::after_tag;
+use typing::word;
 ghost use Prim.Native.Nat.{_+_, _≤_};
 ghost use lib.ListN.{length};
 ghost use Rattle.reading.specs.Limits.{maxList};
@@ -23,12 +24,12 @@ ghost use Rattle.text.specs.Near.{Kept};
 ghost use Rattle.text.specs.Message.{sayingText, setSaid, claimSaid, eventSaid, varSaid};
 ghost use Rattle.text.specs.Said.{sayingOf};
 ghost use Rattle.text.specs.Says.{WithRows, WithClaims, Says, SaysSet, PutsSaid};
-ghost use Rattle.text.specs.Pieces.{inModule, inTransition, PutWithin};
+ghost use Rattle.text.specs.Pieces.{inModule, inTransition};
 ghost use Rattle.text.specs.declared.said.Arg.the-variants.{Blank, Name, Number};
 ghost use Rattle.text.specs.declared.said.Said.the-variants.{Line};
 
 // Puts in which module it is.
-fn put_module(out: &mut [u8], at: usize, doc: &[u8], name: usize) -> usize
+pub(crate) fn put_module(out: &mut [u8], at: usize, doc: &[u8], name: usize) -> usize
     requires { ⌜ (at ≤ 0x10_0000) × (length (now doc) ≤ 0xffff) ⌝ }
     ensures { λ r. ⌜ Put (now (out .entry)) at (inModule (textAt (now (doc .entry)) name)) r (now (out .exit)) ⌝ }
     ensures { λ r. ⌜ r ≤ at + 0x1_0100 ⌝ }
@@ -38,7 +39,7 @@ fn put_module(out: &mut [u8], at: usize, doc: &[u8], name: usize) -> usize
 }
 
 // Puts in which module and transition it is.
-fn put_transition(out: &mut [u8], at: usize, doc: &[u8], name: usize, i: u64) -> usize
+pub(crate) fn put_transition(out: &mut [u8], at: usize, doc: &[u8], name: usize, i: u64) -> usize
     requires { ⌜ (at ≤ 0x10_0000) × (length (now doc) ≤ 0xffff) ⌝ }
     ensures { λ r. ⌜ Put (now (out .entry)) at (inTransition (textAt (now (doc .entry)) name) (decimal i)) r (now (out .exit)) ⌝ }
     ensures { λ r. ⌜ r ≤ at + 0x1_0200 ⌝ }
@@ -48,24 +49,6 @@ fn put_transition(out: &mut [u8], at: usize, doc: &[u8], name: usize, i: u64) ->
     put_decimal(out, b, i)
 }
 
-// Puts an entry's name with bytes before and behind it.
-fn put_entry<'a>(
-    out: &mut [u8],
-    at: usize,
-    doc: &'a [u8],
-    before: &'a [u8],
-    entry: usize,
-    behind: &'a [u8],
-) -> usize
-    requires { ⌜ (at ≤ 0x20_0000) × (length (now doc) ≤ 0xffff) × (length (now before) ≤ 0xff) × (length (now behind) ≤ 0xff) ⌝ }
-    ensures { λ r. ⌜ PutWithin (now (out .entry)) at (now (before .entry)) (textAt (now (doc .entry)) entry) (now (behind .entry)) r (now (out .exit)) ⌝ }
-    ensures { λ r. ⌜ r ≤ at + 0x1_0200 ⌝ }
-{
-    let a = put_bytes(out, at, before);
-    let b = put_text(out, a, doc, entry);
-    put_bytes(out, b, behind)
-}
-
 // Puts the message of site 11: of a variable that is none.
 fn put_unknown(out: &mut [u8], at: usize, doc: &[u8], name: usize, i: u64, entry: usize) -> usize
     requires { ⌜ (at ≤ 0x10_0000) × (length (now doc) ≤ 0xffff) ⌝ }
@@ -73,7 +56,7 @@ fn put_unknown(out: &mut [u8], at: usize, doc: &[u8], name: usize, i: u64, entry
     ensures { λ r. ⌜ r ≤ at + 0x3_0000 ⌝ }
 {
     let a = put_transition(out, at, doc, name, i);
-    put_entry(out, a, doc, b": set unknown variable '", entry, b"'")
+    put_name(out, a, doc, b": set unknown variable '", entry, b"'")
 }
 
 // Puts the message of site 18: of a name that stands earlier.
@@ -83,7 +66,7 @@ fn put_repeated(out: &mut [u8], at: usize, doc: &[u8], name: usize, entry: usize
     ensures { λ r. ⌜ r ≤ at + 0x3_0000 ⌝ }
 {
     let a = put_module(out, at, doc, name);
-    put_entry(
+    put_name(
         out,
         a,
         doc,
@@ -100,7 +83,7 @@ fn put_dead(out: &mut [u8], at: usize, doc: &[u8], name: usize, entry: usize) ->
     ensures { λ r. ⌜ r ≤ at + 0x3_0000 ⌝ }
 {
     let a = put_module(out, at, doc, name);
-    put_entry(
+    put_name(
         out,
         a,
         doc,
@@ -117,7 +100,7 @@ fn put_unused(out: &mut [u8], at: usize, doc: &[u8], name: usize, entry: usize) 
     ensures { λ r. ⌜ r ≤ at + 0x3_0000 ⌝ }
 {
     let a = put_module(out, at, doc, name);
-    put_entry(
+    put_name(
         out,
         a,
         doc,

@@ -3,13 +3,13 @@ use crate::said::Arg;
 use crate::said::Said;
 use crate::said::two;
 use findings::field;
-use findings::word;
 use reading::Answer;
 use reading::Cursor;
 use typing::Blame;
 use typing::Clash;
 use typing::contradictory_equalities;
 use typing::null_at;
+use typing::word;
 ghost use Rattle.text.specs.Says.{NumberAt, SaysPriority, SaysPair, SaysId, SaysClash};
 
 // The number at a place; 0 where none stands there.

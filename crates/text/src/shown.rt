@@ -12,6 +12,7 @@ ghost use Rattle.typing.specs.Means.{tyOf};
 ghost use Rattle.typing.specs.declared.ty.Ty.the-variants.{Enum};
 ghost use Rattle.text.specs.Put.{Put};
 ghost use Rattle.text.specs.Shown.{debugType, whatText};
+ghost use Rattle.text.specs.Pieces.{PutWithin};
 
 // Puts the string at a place of the document.
 pub(crate) fn put_text(out: &mut [u8], at: usize, doc: &[u8], place: usize) -> usize
@@ -20,6 +21,24 @@ pub(crate) fn put_text(out: &mut [u8], at: usize, doc: &[u8], place: usize) -> u
     ensures { λ r. ⌜ r ≤ at + 0xffff ⌝ }
 {
     put_bytes(out, at, text_at(doc, place))
+}
+
+// Puts the string at a place with bytes before and behind it.
+pub(crate) fn put_name<'a>(
+    out: &mut [u8],
+    at: usize,
+    doc: &'a [u8],
+    before: &'a [u8],
+    place: usize,
+    behind: &'a [u8],
+) -> usize
+    requires { ⌜ (at ≤ 0x400_0000) × (length (now doc) ≤ 0xffff) × (length (now before) ≤ 0xff) × (length (now behind) ≤ 0xff) ⌝ }
+    ensures { λ r. ⌜ PutWithin (now (out .entry)) at (now (before .entry)) (textAt (now (doc .entry)) place) (now (behind .entry)) r (now (out .exit)) ⌝ }
+    ensures { λ r. ⌜ r ≤ at + 0x1_0200 ⌝ }
+{
+    let a = put_bytes(out, at, before);
+    let b = put_text(out, a, doc, place);
+    put_bytes(out, b, behind)
 }
 
 // Puts an enum's type by its name.

@@ -76,7 +76,7 @@ pub(crate) fn say_opened(
     i: usize,
     j: usize,
 ) -> Said
-    requires { ⌜ 1033 ≤ length (now places) ⌝ }
+    requires { ⌜ 1544 ≤ length (now places) ⌝ }
     requires { ⌜ 2040 ≤ length (now rows) ⌝ }
     requires { ⌜ 1658 ≤ length (now table) ⌝ }
     requires { ⌜ 829 ≤ length (now enums) ⌝ }
@@ -105,7 +105,7 @@ pub(crate) fn say_opened(
 pub(crate) fn say_in(doc: &[u8], at: usize, site: u32, i: usize, j: usize) -> Said
     ensures { λ r. ⌜ SaysIn (now (doc .entry)) at site i j r ⌝ }
 {
-    let mut places = [0usize; 1033];
+    let mut places = [0usize; 1544];
     let mut rows = [0usize; 2040];
     let mut table = [0usize; 1658];
     let mut enums = [0usize; 2365];

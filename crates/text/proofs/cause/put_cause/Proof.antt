@@ -127,16 +127,15 @@ returns-20 c =
     (rw (p .before .before .before .enum-told7 .given .1) (p .put-words7 .ensures .0), p .put-words7 .ensures .1)
 
 returns-21 : tie.Need-returns-21
-unfolding causeText causeOf shown
 returns-21 c =
     let p = c .before .before in
-    (rw (p .before .before .before .before .c14 .given .1) (p .put-one7 .ensures .0), p .put-one7 .ensures .1)
+    (rw (p .before .before .before .c14 .given .1) (p .put-identifier .ensures .0), p .put-identifier .ensures .1)
 
 returns-22 : tie.Need-returns-22
 unfolding causeText causeOf shown
 returns-22 c =
     let p = c .before .before in
-    (rw (p .before .before .before .before .c15 .given .1) (p .put-one8 .ensures .0), p .put-one8 .ensures .1)
+    (rw (p .before .before .before .before .c15 .given .1) (p .put-one7 .ensures .0), p .put-one7 .ensures .1)
 
 returns-23 : tie.Need-returns-23
 unfolding causeText causeOf shown
@@ -148,7 +147,7 @@ returns-24 : tie.Need-returns-24
 unfolding causeText causeOf shown
 returns-24 c =
     let p = c .before .before in
-    (rw (p .before .before .before .before .c17 .given .1) (p .put-one9 .ensures .0), p .put-one9 .ensures .1)
+    (rw (p .before .before .before .before .c17 .given .1) (p .put-one8 .ensures .0), p .put-one8 .ensures .1)
 
 returns-25 : tie.Need-returns-25
 unfolding causeText causeOf shown
@@ -181,10 +180,9 @@ returns-29 c =
     (rw (p .before .before .before .enum-told11 .given .1) (p .put-words11 .ensures .0), p .put-words11 .ensures .1)
 
 returns-30 : tie.Need-returns-30
-unfolding causeText causeOf shown
 returns-30 c =
     let p = c .before .before in
-    (rw (p .before .before .before .before .c19 .given .1) (p .put-two8 .ensures .0), p .put-two8 .ensures .1)
+    (rw (p .before .before .before .c19 .given .1) (p .put-mismatch .ensures .0), p .put-mismatch .ensures .1)
 
 returns-31 : tie.Need-returns-31
 unfolding causeText causeOf shown
@@ -258,7 +256,6 @@ put-cause-spec =
     (λ c. search needs)
     (λ c κs. search needs)
     (λ c. search needs)
-    (λ c. search needs)
     (λ c κs. search needs)
     (λ c. search needs)
     (λ c. search needs)
@@ -286,7 +283,6 @@ put-cause-spec =
     (λ c. search needs)
     (λ c. search needs)
     (λ c κs. search needs)
-    (λ c. search needs)
     (λ c. search needs)
     (λ c κs. search needs)
     (λ c. search needs)

@@ -2,8 +2,8 @@
 use mathlib.Core.Path.{refl}
 use borrow.Author.Needs.{needs}
 use Rattle.typing.specs.Means.{withinOf}
+use Rattle.text.specs.Form.{format}
 use Rattle.text.specs.CauseText.{withinText}
-use Rattle.text.specs.Said.{shown}
 use Rattle.text.proofs.PutLaws.{put-none}
 use Rattle.text.proofs.cause.put_within.Statement.{statement}
 use Rattle.text.proofs.cause.put_within.Tie as tie
@@ -13,16 +13,16 @@ unfolding withinText withinOf
 returns c = (rw (c .enum-told .given .1) (put-none refl), search needs)
 
 returns-2 : tie.Need-returns-2
-unfolding withinText withinOf shown
+unfolding withinText withinOf format
 returns-2 c =
     let p = c .before .before in
-    (rw (p .before .before .before .before .w .given .1) (p .put-one .ensures .0), p .put-one .ensures .1)
+    (rw (p .before .before .before .before .before .w .given .1) (p .put-name .ensures .0 .put), search needs)
 
 returns-3 : tie.Need-returns-3
-unfolding withinText withinOf shown
+unfolding withinText withinOf format
 returns-3 c =
     let p = c .before .before in
-    (rw (p .before .before .before .before .w2 .given .1) (p .put-one2 .ensures .0), p .put-one2 .ensures .1)
+    (rw (p .before .before .before .before .before .w2 .given .1) (p .put-name2 .ensures .0 .put), search needs)
 
 pub put-within-spec : {M : Type 1} → statement M
 put-within-spec =
@@ -31,7 +31,9 @@ put-within-spec =
     (λ c. search needs)
     (λ c. search needs)
     (λ c. search needs)
+    (λ c. search needs)
     (λ c κs. search needs)
+    (λ c. search needs)
     (λ c. search needs)
     (λ c. search needs)
     (λ c κs. search needs)

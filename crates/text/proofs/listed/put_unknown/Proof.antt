@@ -12,7 +12,7 @@ unfolding siteForm plain
 returns c =
     let c2 = c .before .before in
     let c1 = c2 .before .before .before .before .before .before in
-    (set-told _ 11 _ _ (c2 .put-entry .ensures .0) _ (c1 .put-transition .ensures .0) refl refl refl, search needs)
+    (set-told _ 11 _ _ (c2 .put-name .ensures .0) _ (c1 .put-transition .ensures .0) refl refl refl, search needs)
 
 pub put-unknown-spec : {M : Type 1} → statement M
 put-unknown-spec =

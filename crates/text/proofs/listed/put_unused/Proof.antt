@@ -12,7 +12,7 @@ unfolding siteForm plain
 returns c =
     let c2 = c .before .before in
     let c1 = c2 .before .before .before .before .before .before in
-    (entry-told _ 23 _ _ (c2 .put-entry .ensures .0) (c1 .put-module .ensures .0) refl refl refl, search needs)
+    (entry-told _ 23 _ _ (c2 .put-name .ensures .0) (c1 .put-module .ensures .0) refl refl refl, search needs)
 
 pub put-unused-spec : {M : Type 1} → statement M
 put-unused-spec =
