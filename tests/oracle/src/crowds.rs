@@ -43,6 +43,11 @@ fn first_of_table(name: &str) -> bool {
     spread(0, name) >> 22 == 0
 }
 
+/// Whether a name is on the first of the 255 lanes of a roll by the first key.
+fn first_of_roll(name: &str) -> bool {
+    (spread(0, name) / 65_536).is_multiple_of(255)
+}
+
 /// Whether a variant has the first mark by the first key.
 fn first_of_marks(name: &str) -> bool {
     (spread(0, name) >> 24).is_multiple_of(255)
@@ -61,6 +66,11 @@ pub fn of_block(start: &str, many: usize) -> Vec<String> {
 /// So many names that begin alike, on one lane of a table.
 pub fn of_table(start: &str, many: usize) -> Vec<String> {
     those(start, many, first_of_table)
+}
+
+/// So many names that begin alike, on one lane of a roll of 255.
+pub fn of_roll(start: &str, many: usize) -> Vec<String> {
+    those(start, many, first_of_roll)
 }
 
 /// So many names that begin alike, of one mark.

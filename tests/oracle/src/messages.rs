@@ -12,7 +12,7 @@ use crate::generate::cases::{self, cases};
 use crate::generate::rng::Rng;
 use crate::generate::{deep, disturb, limits, planted, seeds, valid, whole, Source};
 use crate::lang::ir::{
-    BinOp, EventPattern, Expr, Ir, Module, PatternExpr, PatternField, Transition, Type,
+    BinOp, EventPattern, Expr, Ir, Module, OutputExpr, PatternExpr, PatternField, Transition, Type,
 };
 use crate::lines::{print, LENT};
 use crate::original::findings;
@@ -370,6 +370,18 @@ fn value(rng: &mut Rng, names: &[String], many: usize) -> Expr {
     }
 }
 
+/// An output with an argument, or any group's unit or only one.
+fn emitted(rng: &mut Rng, names: &[String], many: usize) -> OutputExpr {
+    match rng.below(6) {
+        0 | 1 => emit("E", Some("f"), vec![value(rng, names, many)]),
+        2 => emit(called(rng, names, many), None, Vec::new()),
+        _ => {
+            let group = called(rng, names, many).to_string();
+            emit(&group, Some(called(rng, names, many)), Vec::new())
+        }
+    }
+}
+
 /// A pattern of the event that has fields, or of one that has none.
 fn binding(rng: &mut Rng, fields: usize, names: &[String], many: usize) -> EventPattern {
     let field = |k: usize| -> PatternField {
@@ -416,7 +428,7 @@ fn listed(rng: &mut Rng) -> Ir {
                 .map(|n| set(n, value(rng, names, many)))
                 .collect(),
             emits: (0..length(rng).min(20))
-                .map(|_| emit("E", Some("f"), vec![value(rng, names, many)]))
+                .map(|_| emitted(rng, names, many))
                 .collect(),
             ..step("A", "E", "A")
         };
@@ -425,12 +437,17 @@ fn listed(rng: &mut Rng) -> Ir {
         for mode in ["Mode0", "Mode1", "Mode2"] {
             enums.push(enum_decl(mode, &some(rng)));
         }
+        let mut outputs = vec![group("E", vec![with_fields("f", &[("g", bit(8))])])];
+        for _ in 0..rng.of(&[0, 1, 3, 18, 60]) {
+            let units = some(rng).into_iter().map(unit).collect();
+            outputs.push(group(called(rng, names, many), units));
+        }
         Module {
             enums,
             initial_state: Some(text("A")),
             transitions,
             events: vec![group("E", events)],
-            outputs: vec![group("E", vec![with_fields("f", &[("g", bit(8))])])],
+            outputs,
             vars: some(rng)
                 .into_iter()
                 .map(|n| var(n, bit(8), value(rng, names, many)))

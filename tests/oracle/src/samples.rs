@@ -2,7 +2,7 @@
 //! as deep as is allowed, one of a growing number of transitions, and one in
 //! which every pair is found.
 
-use crate::crowds::{mate, of_block, of_mark, of_one_print, of_table};
+use crate::crowds::{mate, of_block, of_mark, of_one_print, of_roll, of_table};
 use crate::encode::encode;
 use crate::generate::build::*;
 use crate::lang::ir::*;
@@ -117,6 +117,9 @@ pub fn costly() -> Vec<Sample> {
         ("mates", mates()),
         ("outputs", outputs()),
         ("groups", groups()),
+        ("lists", lists()),
+        ("rolled", last_of(&of_roll("u", 255))),
+        ("alike", last_of(&of_one_print(255))),
         ("stranded", stranded()),
         ("strange", strange()),
         ("unfit", unfit()),
@@ -401,11 +404,20 @@ fn mates() -> Ir {
 /// 18 transitions that put out the last of 255 units, which has a longer name
 /// than the others, 250 times each.
 fn outputs() -> Ir {
-    emitting(
-        vec![group("O", with_last("u").map(|n| unit(&n)).collect())],
-        "O",
-        "u25499",
-    )
+    last_of(&with_last("u").collect::<Vec<_>>())
+}
+
+/// The same of any outputs.
+fn last_of(names: &[String]) -> Ir {
+    let units = names.iter().map(|n| unit(n)).collect();
+    emitting(vec![group("O", units)], "O", &names[names.len() - 1], 18)
+}
+
+/// The same of the last of 12 such groups, 3,250 times.
+fn lists() -> Ir {
+    let units = || with_last("u").map(|n| unit(&n)).collect();
+    let groups = (0..12).map(|k| group(&format!("g{k}"), units()));
+    emitting(groups.collect(), "g11", "u25499", 13)
 }
 
 /// The same of the unit of the last of 255 groups.
@@ -414,6 +426,7 @@ fn groups() -> Ir {
         with_last("g").map(|n| group(&n, vec![unit("u")])).collect(),
         "g25499",
         "u",
+        18,
     )
 }
 
@@ -422,15 +435,15 @@ fn with_last(start: &str) -> impl Iterator<Item = String> + '_ {
     (0..255).map(move |k| format!("{start}{k:03}{}", if k == 254 { "99" } else { "" }))
 }
 
-/// 18 transitions that put out one unit 250 times each.
-fn emitting(outputs: Vec<ConstructorGroup>, group: &str, unit: &str) -> Ir {
+/// So many transitions that put out one unit 250 times each.
+fn emitting(outputs: Vec<ConstructorGroup>, group: &str, unit: &str, many: usize) -> Ir {
     let step = |place: usize| Transition {
         emits: vec![emit(group, Some(unit), Vec::new()); 250],
         ..mixed_step(3 * place + 2)
     };
     ir(vec![Module {
         outputs,
-        transitions: (0..18).map(step).collect(),
+        transitions: (0..many).map(step).collect(),
         ..mixed("Link", 0, 1)
     }])
 }
