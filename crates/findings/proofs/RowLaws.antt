@@ -3,7 +3,7 @@ use Prim.Native.Nat.{ℕ, zero, suc, _+_, _-_, _*_, _<_, _≤_}
 use mathlib.Core.Path.{_≡_, refl, sym, ap, subst, _∙_}
 use mathlib.Core.List.{List, [], _∷_, _++_}
 use native.Mathlib.Omega.{arith}
-use lib.ListN.{length, getD, set, length-set, List·getD-eq-default}
+use lib.ListN.{length, set, length-set}
 use lib.Seq.{sets, length-sets}
 use Rattle.reading.specs.Read.{Reader, ok}
 use Rattle.reading.specs.Limits.{maxList}
@@ -57,10 +57,6 @@ module _ (s : List ℕ) (fields at : ℕ) (table : List ℕ) (j : ℕ) where
     pub row-filled : now ≡ sets table j (rowAt fields s at)
     unfolding rowFrom
     row-filled = let z : fields - f ≡ 0 = omega arith in rw z at (g .rest)
-
--- past the end of a table there is no word
-pub past-end : (l : List ℕ) (n : ℕ) → length l ≤ n → 0 ≡ getD l n 0
-past-end l n h = sym (List·getD-eq-default l 0 h)
 
 pub row-length : (f : ℕ) (s : List ℕ) (k : ℕ) → length (rowFrom f s k) ≡ f
 unfolding rowFrom

@@ -31,7 +31,7 @@ use Rattle.typing.specs.Rolls.{OutputsAt}
 use Rattle.typing.proofs.EnvLaws.{entry, after-is, fields-head}
 use Rattle.typing.proofs.GroupLaws.{groups-at}
 use Rattle.typing.proofs.BlockLaws.{word-kept}
-use Rattle.findings.specs.Scene.{rowFrom, endFrom, rowAt, rowEnd, rowsFrom, rowsEnd, rowsOf, rowsAt, RowsFilled, Reads, field, RowAt, Rows, groupsIn, eventsIn, outputsIn, withTable, GroupsFilled, Scene, OpensRest, Opens}
+use Rattle.findings.specs.Scene.{rowFrom, endFrom, rowAt, rowEnd, rowsFrom, rowsEnd, rowsOf, rowsAt, RowsFilled, Reads, field, RowAt, Rows, eventsIn, outputsIn, withTable, GroupsFilled, Scene, OpensRest, Opens}
 use Rattle.findings.specs.declared.rows.Listed.{Listed}
 use Rattle.findings.proofs.RowLaws.{row-length, sets-append}
 use Rattle.findings.proofs.ClaimTables.{pairs-few}
