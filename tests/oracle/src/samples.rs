@@ -123,6 +123,8 @@ pub fn costly() -> Vec<Sample> {
         ("stranded", stranded()),
         ("strange", strange()),
         ("unfit", unfit()),
+        ("counted", counted()),
+        ("values", values()),
     ];
     let sample = |(name, ir)| Sample {
         name,
@@ -450,14 +452,32 @@ fn emitting(outputs: Vec<ConstructorGroup>, group: &str, unit: &str, many: usize
 
 /// 11 transitions with 255 outputs each whose argument is of another type.
 fn unfit() -> Ir {
+    mistaken(vec![path(&["armed"])])
+}
+
+/// The same without the argument.
+fn counted() -> Ir {
+    mistaken(Vec::new())
+}
+
+fn mistaken(args: Vec<Expr>) -> Ir {
     let step = |place: usize| Transition {
-        emits: vec![emit("Out", Some("log"), vec![path(&["armed"])]); 255],
+        emits: vec![emit("Out", Some("log"), args.clone()); 255],
         ..mixed_step(3 * place + 2)
     };
     ir(vec![Module {
         transitions: (0..11).map(step).collect(),
         ..mixed("Link", 0, 1)
     }])
+}
+
+/// 11 transitions with 255 assignments each of a name that is not declared.
+fn values() -> Ir {
+    let step = |place: usize| Transition {
+        assignments: vec![set("v000", path(&["w"])); 255],
+        ..mixed_step(3 * place + 2)
+    };
+    crowded((0..11).map(step).collect())
 }
 
 /// 12 modules of 255 states, all but the first of which nothing leads to.
