@@ -1,6 +1,6 @@
 -- Past the end there is no word.
 use borrow.Author.Needs.{needs}
-use Rattle.findings.proofs.RowLaws.{past-end}
+use Rattle.typing.proofs.RollLaws.{past-end}
 use Rattle.offercheck.proofs.line.word_at.Statement.{statement}
 use Rattle.offercheck.proofs.line.word_at.Tie as tie
 
