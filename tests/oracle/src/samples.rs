@@ -125,6 +125,8 @@ pub fn costly() -> Vec<Sample> {
         ("unfit", unfit()),
         ("counted", counted()),
         ("values", values()),
+        ("judged", judged()),
+        ("args", args()),
     ];
     let sample = |(name, ir)| Sample {
         name,
@@ -478,6 +480,36 @@ fn values() -> Ir {
         ..mixed_step(3 * place + 2)
     };
     crowded((0..11).map(step).collect())
+}
+
+/// 9 such transitions, whose patterns bind 255 fields each.
+fn judged() -> Ir {
+    let fields = names("f");
+    let step = |place: usize| Transition {
+        pattern: binding_all(&fields),
+        assignments: vec![set("v000", path(&["w"])); 255],
+        ..mixed_step(3 * place + 2)
+    };
+    ir(vec![Module {
+        events: event_of_all(&fields),
+        vars: crowd(),
+        transitions: (0..9).map(step).collect(),
+        ..mixed("Link", 0, 1)
+    }])
+}
+
+/// 11 transitions with 255 outputs each, of which the last argument is at
+/// fault.
+fn args() -> Ir {
+    let sent = || vec![path(&["limit"]), path(&[])];
+    let step = |place: usize| Transition {
+        emits: vec![emit("Out", Some("send"), sent()); 255],
+        ..mixed_step(3 * place + 2)
+    };
+    ir(vec![Module {
+        transitions: (0..11).map(step).collect(),
+        ..mixed("Link", 0, 1)
+    }])
 }
 
 /// 12 modules of 255 states, all but the first of which nothing leads to.
