@@ -4,10 +4,9 @@ use mathlib.Core.Path.{_≡_, refl, sym, ap, _∙_}
 use mathlib.Core.Bool.{Bool, true, false}
 use mathlib.Core.List.{List}
 use mathlib.Core.Option.{some}
-use native.Mathlib.Nat.{mod-lt}
 use native.Mathlib.Decide.{ℕ-discrete}
 use native.Mathlib.Omega.{arith}
-use lib.ListN.{length, getD, getElem?, set, length-set}
+use lib.ListN.{length, getD, getElem?, set, take, length-set}
 use lib.Seq.{getD-set-same, getD-set-other}
 use Rattle.reading.specs.Read.{ok}
 use Rattle.reading.specs.Limits.{maxList}
@@ -21,29 +20,24 @@ use Rattle.reading.proofs.ListViews.{list-at}
 use Rattle.typing.specs.Lanes.{printBy, factor}
 use Rattle.typing.specs.Table.{afterItem, afterHead, Past}
 use Rattle.typing.specs.Segments.{afterItems}
-use Rattle.typing.specs.Rolls.{Bytes, manyIn, nameAt, printOf, hintOf, asideOf, rollLane, Rolled, PutsRoll, itemIn, rollIn, variantsIn, OutputsAt, RollsOne, FillsOutputs}
+use Rattle.typing.specs.Rolls.{Bytes, manyIn, nameAt, asideOf, Rolled, PutsRoll, itemIn, rollIn, variantsIn, OutputsAt, RollsOne, FillsOutputs}
 use Rattle.typing.proofs.BlockLaws.{word-kept}
+use Rattle.typing.proofs.ChainLaws.{chained-same}
 use Rattle.typing.proofs.EnvLaws.{after-is}
 use Rattle.typing.proofs.GroupLaws.{group-parts}
 use Rattle.typing.proofs.OutputLaws.{get-less, entry-at, variants-at}
 
--- a roll depends on its own words only, and on its index words only below 2 ^ 40
-low-print : (x y : ℕ) → x % 2 ^ 40 ≡ y % 2 ^ 40 → x % 2 ^ 32 ≡ y % 2 ^ 32
+-- a roll depends on its own words only, and on its index words only below 2 ^ 48
+low-print : (x y : ℕ) → x % 2 ^ 48 ≡ y % 2 ^ 48 → x % 2 ^ 32 ≡ y % 2 ^ 32
 low-print x y e = omega arith
 
-low-hint : (x y : ℕ) → x % 2 ^ 40 ≡ y % 2 ^ 40 → x / 2 ^ 32 % 2 ^ 8 ≡ y / 2 ^ 32 % 2 ^ 8
+low-hint : (x y : ℕ) → x % 2 ^ 48 ≡ y % 2 ^ 48 → x / 2 ^ 32 % 2 ^ 8 ≡ y / 2 ^ 32 % 2 ^ 8
 low-hint x y e = omega arith
 
-lane-less : (n p : ℕ) → 0 < n → rollLane n p < n
-unfolding rollLane
-lane-less n p h = mod-lt _ h
+low-next : (x y : ℕ) → x % 2 ^ 48 ≡ y % 2 ^ 48 → x / 2 ^ 40 % 2 ^ 8 ≡ y / 2 ^ 40 % 2 ^ 8
+low-next x y e = omega arith
 
-module _ {tagged : Bool} {s T : List ℕ} (T′ : List ℕ) {q first n : ℕ} (r : Rolled tagged s T q first n) (l : length T′ ≡ length T) (g : (j : ℕ) → q ≤ j → j < q + 1 + n → getD T′ j 0 ≡ getD T j 0) (d : (i : ℕ) → i < n → getD T′ (q + 1 + n + i) 0 % 2 ^ 40 ≡ getD T (q + 1 + n + i) 0 % 2 ^ 40) where
-  hint-kept : (i : ℕ) → i < n → hintOf (getD T′ (q + 1 + n + rollLane n (printOf (getD T′ (q + 1 + n + i) 0))) 0) ≡ hintOf (getD T (q + 1 + n + rollLane n (printOf (getD T (q + 1 + n + i) 0))) 0)
-  hint-kept i a =
-      ap (λ (p : ℕ). hintOf (getD T′ (q + 1 + n + rollLane n p) 0)) (low-print _ _ (d i a))
-      ∙ low-hint _ _ (d (rollLane n (printOf (getD T (q + 1 + n + i) 0))) (lane-less n _ (omega arith)))
-
+module _ {tagged : Bool} {s T : List ℕ} (T′ : List ℕ) {q first n : ℕ} (r : Rolled tagged s T q first n) (l : length T′ ≡ length T) (g : (j : ℕ) → q ≤ j → j < q + 1 + n → getD T′ j 0 ≡ getD T j 0) (d : (i : ℕ) → i < n → getD T′ (q + 1 + n + i) 0 % 2 ^ 48 ≡ getD T (q + 1 + n + i) 0 % 2 ^ 48) where
   rolled-kept : Rolled tagged s T′ q first n
   rolled-kept =
       let m = r .room in
@@ -54,29 +48,30 @@ module _ {tagged : Bool} {s T : List ℕ} (T′ : List ℕ) {q first n : ℕ} (r
         room = omega arith;
         item = λ i a. g (q + 1 + i) (omega arith) (omega arith) ∙ r .item i a;
         print-is = λ i a. low-print _ _ (d i a) ∙ r .print-is i a ∙ ap (λ (x : ℕ). printBy (factor (x / 2 ^ 8)) 0 (textAt s (nameAt tagged s (afterItems i s first)))) (sym w);
-        hinted = record { some-hint = λ i a. rw (hint-kept i a) (r .hinted .some-hint i a); not-past = λ i a. rw (hint-kept i a) (r .hinted .not-past i a) };
+        hinted = chained-same (r .hinted) (λ i a. low-print _ _ (d i a)) (λ i a. low-hint _ _ (d i a)) (λ i a. low-next _ _ (d i a));
       }
 
--- the roll of the variants of one group
+-- no roll for the variants of one group
+pub roll-none : (s T : List ℕ) (n k : ℕ) {q : ℕ} (T′ : List ℕ) → 1 + n + k < q → q ≤ length T → length T′ ≡ length T → take q T′ ≡ take q T → RollsOne s T n k q q T′
+roll-none s T n k {q} T′ before room l t =
+    let o = word-kept T T′ q t in
+    record {
+      size = l;
+      more = omega arith;
+      room = room;
+      few = omega arith;
+      kept = λ j c d. o j c;
+      index-kept = ap (λ (x : ℕ). x % 2 ^ 48) (o (1 + n + k) before);
+      none-put = λ e. o (1 + n + k) before;
+      put = λ e. absurd (omega arith);
+    }
+
+-- a roll for them
 module _ (s T : List ℕ) {n k q : ℕ} (before : 1 + n + k < q) (room : q ≤ length T) {r name list : ℕ} {T′ : List ℕ} (a : name ≡ afterHead s (getD T (1 + k) 0)) (b : Past s name list) (p : PutsRoll true s list T q r T′) where
-  pub roll-none : r ≡ 0 → RollsOne s T n k q q T′
-  roll-none z =
-      let o = word-kept T T′ q (p .kept) in
-      record {
-        size = p .size;
-        more = omega arith;
-        room = room;
-        few = omega arith;
-        kept = λ j c d. o j c;
-        index-kept = ap (λ (x : ℕ). x % 2 ^ 40) (o (1 + n + k) before);
-        none-put = λ e. o (1 + n + k) before;
-        put = λ e. absurd (omega arith);
-      }
-
-  pub roll-put : (r ≡ 0 → ⊥) → r ≤ 511 → RollsOne s T n k q (q + r) (set T′ (1 + n + k) (getD T′ (1 + n + k) 0 % 2 ^ 40 + q * 2 ^ 40))
+  pub roll-put : (r ≡ 0 → ⊥) → r ≤ 511 → RollsOne s T n k q (q + r) (set T′ (1 + n + k) (getD T′ (1 + n + k) 0 % 2 ^ 48 + q * 2 ^ 48))
   roll-put z few =
       let x = 1 + n + k in
-      let v = getD T′ x 0 % 2 ^ 40 + q * 2 ^ 40 in
+      let v = getD T′ x 0 % 2 ^ 48 + q * 2 ^ 48 in
       let y = p .size in
       let o = word-kept T T′ q (p .kept) in
       let w = o x before in
@@ -95,7 +90,7 @@ module _ (s T : List ℕ) {n k q : ℕ} (before : 1 + n + k < q) (room : q ≤ l
           λ m from u.
               let g = p .has (omega arith) m from (ap (readCount maxList s) (variants-at s T k refl a b) ∙ u) in
               let i = g .0 in
-              (omega arith, rolled-kept (set T′ x v) (g .1) (length-set T′ x v) (λ j d f. c j d) (λ j d. ap (λ (y : ℕ). y % 2 ^ 40) (c (q + 1 + m + j) (omega arith)))),
+              (omega arith, rolled-kept (set T′ x v) (g .1) (length-set T′ x v) (λ j d f. c j d) (λ j d. ap (λ (y : ℕ). y % 2 ^ 48) (c (q + 1 + m + j) (omega arith)))),
         );
       }
 
@@ -110,16 +105,15 @@ module _ (s T : List ℕ) (n : ℕ) where
     pub through : k ≤ n
     pub few : n ≤ 255
     pub low : 2 * n + 1 ≤ q
-    pub high : q ≤ 511 * (k + 1)
     pub room : q ≤ length T
-    pub bare : (j : ℕ) → j < n → getD T (1 + n + j) 0 < 2 ^ 40
+    pub bare : (j : ℕ) → j < n → getD T (1 + n + j) 0 < 2 ^ 48
     pub kept : (j : ℕ) → j < 1 + n → getD T′ j 0 ≡ getD T j 0
     pub later : (j : ℕ) → k ≤ j → j < n → getD T′ (1 + n + j) 0 ≡ getD T (1 + n + j) 0
-    pub index-kept : (j : ℕ) → j < n → getD T′ (1 + n + j) 0 % 2 ^ 40 ≡ getD T (1 + n + j) 0 % 2 ^ 40
+    pub index-kept : (j : ℕ) → j < n → getD T′ (1 + n + j) 0 % 2 ^ 48 ≡ getD T (1 + n + j) 0 % 2 ^ 48
     pub rolls : (j : ℕ) → j < k → Behind j q T′
 
-  pub rolling-start : {at r : ℕ} {T₀ : List ℕ} → PutsRoll false s at T₀ 0 r T → r ≤ 511 → 0 < r → n ≡ manyIn T 0 → Rolling 0 r T
-  rolling-start p f z e =
+  pub rolling-start : {at r : ℕ} {T₀ : List ℕ} → PutsRoll false s at T₀ 0 r T → 0 < r → n ≡ manyIn T 0 → Rolling 0 r T
+  rolling-start p z e =
       let c = p .count z in
       let y = p .size in
       let m = p .room in
@@ -129,7 +123,6 @@ module _ (s T : List ℕ) (n : ℕ) where
         through = omega arith;
         few = omega arith;
         low = omega arith;
-        high = omega arith;
         room = omega arith;
         bare = λ j a. rw e (p .bare z j (omega arith));
         kept = λ j a. refl;
@@ -145,9 +138,7 @@ module _ (s T : List ℕ) (n : ℕ) where
     pub rolling-more : {r : ℕ} {T″ : List ℕ} → k < n → RollsOne s T′ n k q r T″ → Rolling (k + 1) r T″
     rolling-more {r} {T″} h o =
         let l = g .low in
-        let u = g .high in
         let m = o .more in
-        let f = o .few in
         let c = o .room in
         let y = g .size in
         record {
@@ -156,7 +147,6 @@ module _ (s T : List ℕ) (n : ℕ) where
           through = omega arith;
           few = g .few;
           low = omega arith;
-          high = omega arith;
           room = omega arith;
           bare = g .bare;
           kept = λ j a. o .kept j (omega arith) (λ (e : j ≡ 1 + n + k). omega arith) ∙ g .kept j a;
@@ -168,9 +158,9 @@ module _ (s T : List ℕ) (n : ℕ) where
         other : (j : ℕ) → j < n → (j ≡ k → ⊥) → getD T″ (1 + n + j) 0 ≡ getD T′ (1 + n + j) 0
         other j a d = let l = g .low in o .kept (1 + n + j) (omega arith) (λ (e : 1 + n + j ≡ 1 + n + k). d (omega arith))
 
-        index : (j : ℕ) → j < n → Dec (j ≡ k) → getD T″ (1 + n + j) 0 % 2 ^ 40 ≡ getD T (1 + n + j) 0 % 2 ^ 40
+        index : (j : ℕ) → j < n → Dec (j ≡ k) → getD T″ (1 + n + j) 0 % 2 ^ 48 ≡ getD T (1 + n + j) 0 % 2 ^ 48
         index j a (yes e) = rw e (o .index-kept ∙ g .index-kept k h)
-        index j a (no d) = ap (λ (x : ℕ). x % 2 ^ 40) (other j a d) ∙ g .index-kept j a
+        index j a (no d) = ap (λ (x : ℕ). x % 2 ^ 48) (other j a d) ∙ g .index-kept j a
 
         turn : Dec (r ≡ q) → Behind k r T″
         turn (yes e) = record { of = λ z. let i = o .none-put e in let j = g .later k (omega arith) h in let b = g .bare k h in absurd (omega arith) }
@@ -194,7 +184,7 @@ module _ (s T : List ℕ) (n : ℕ) where
                   let b = x .0 in
                   let f = x .1 in
                   let c : (i : ℕ) → 2 * n + 1 ≤ i → i < q → getD T″ i 0 ≡ getD T′ i 0 = λ i a b. o .kept i b (λ (e : i ≡ 1 + n + k). omega arith) in
-                  rw w (b, omega arith, rolled-kept T″ (x .2) (o .size) (λ i y b. c i (omega arith) (omega arith)) (λ i y. ap (λ (e : ℕ). e % 2 ^ 40) (c _ (omega arith) (omega arith))));
+                  rw w (b, omega arith, rolled-kept T″ (x .2) (o .size) (λ i y b. c i (omega arith) (omega arith)) (λ i y. ap (λ (e : ℕ). e % 2 ^ 48) (c _ (omega arith) (omega arith))));
             }
 
     -- for whatever list of groups reads there

@@ -9,6 +9,7 @@ pub mod TableLaws
 pub mod LaneLaws
 pub mod BlockLaws
 pub mod SegmentLaws
+pub mod ChainLaws
 pub mod RollLaws
 pub mod PathLaws
 pub mod TypeLaws

@@ -117,9 +117,9 @@ module _ (s T : List ℕ) (k variants : ℕ) (w : Name) where
   pub find-listed : {f : Found} → FirstVariant s variants w f → FindsVariant s T k variants w f
   find-listed h = record { of = λ B gs g u e v. let l = u .variants-are k g e in h .of (g .variants) (l .0) (rw v (l .1)) }
 
-  module _ {o x : ℕ} (a : o ≡ getD T 0 0) (b : x ≡ getD T (1 + o % 2 ^ 8 + k) 0) (z : x / 2 ^ 40 ≡ 0 → ⊥) {f : Found} (h : FindsOn true s w T (x / 2 ^ 40) f) where
-    aside : x / 2 ^ 40 ≡ rollIn T k
-    aside = rw (sym a) (ap (λ (y : ℕ). y / 2 ^ 40) b)
+  module _ {o x : ℕ} (a : o ≡ getD T 0 0) (b : x ≡ getD T (1 + o % 2 ^ 8 + k) 0) (z : x / 2 ^ 48 ≡ 0 → ⊥) {f : Found} (h : FindsOn true s w T (x / 2 ^ 48) f) where
+    aside : x / 2 ^ 48 ≡ rollIn T k
+    aside = rw (sym a) (ap (λ (y : ℕ). y / 2 ^ 48) b)
 
     pub find-not : f ≡ Nothing → FindsVariant s T k variants w Nothing
     find-not i = record {
@@ -129,7 +129,7 @@ module _ (s T : List ℕ) (k variants : ℕ) (w : Name) where
           on-roll-no s T w B (variantsIn s T k) (g .variants) (l .1) (r .2) (r .3) (rw aside at h) i;
     }
 
-    pub find-there : {i y : ℕ} → f ≡ At i → y ≡ getD T (x / 2 ^ 40 + 1 + i) 0 → FindsVariant s T k variants w (At y)
+    pub find-there : {i y : ℕ} → f ≡ At i → y ≡ getD T (x / 2 ^ 48 + 1 + i) 0 → FindsVariant s T k variants w (At y)
     find-there {i} {y} j p = record {
       of = λ B gs g u e v.
           let l = u .variants-are k g e in

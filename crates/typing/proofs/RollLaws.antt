@@ -1,4 +1,4 @@
--- Rolls: hints that are put from the last item on each lead to the first of a lane, and so a search from a name's hint passes no item of the name.
+-- Rolls: each has the items that were put, and so a search from the first item of a name's print on passes no item of the name.
 use Prim.Native.Nat.{ℕ, zero, suc, _+_, _-_, _*_, _/_, _%_, _^_, _<_, _≤_}
 use mathlib.Core.Path.{_≡_, refl, sym, ap, subst, _∙_}
 use mathlib.Core.Bool.{Bool, true, false}
@@ -23,7 +23,7 @@ use Rattle.typing.specs.Lanes.{nextPrint, printBy, factor, spread}
 use Rattle.typing.specs.Table.{afterItem, afterHead, afterTag, found}
 use Rattle.typing.specs.Segments.{afterItems}
 use Rattle.typing.specs.Entries.{opened}
-use Rattle.typing.specs.Rolls.{nameAt, manyIn, keyOn, itemIn, indexIn, printOf, hintOf, rollLane, Rolled, numberFrom, FindsOn, WithinTable, PutsItems, PutsHints, PutsKeyed, PutsRoll}
+use Rattle.typing.specs.Rolls.{nameAt, manyIn, keyOn, itemIn, indexIn, printOf, rollLane, StartsOn, Rolled, numberFrom, FindsOn, WithinTable, PutsItems, PutsHints, PutsKeyed, PutsRoll}
 use Rattle.typing.specs.declared.entries.Entries.{Entries}
 use Rattle.typing.specs.declared.table.Found.the-variants.{At, Nothing}
 use Rattle.typing.proofs.NameLaws.{eqName-eq}
@@ -70,84 +70,6 @@ after-more i s at = rw (add-one i) (step i at)
     step : (i at : ℕ) → afterItems (suc i) s at ≡ afterItem s (afterItems i s at)
     step zero at = refl
     step (suc i) at = step i (afterItem s at)
-
--- the hint of item j's lane
-abbrev hintFor : List ℕ → ℕ → ℕ → ℕ → ℕ
-hintFor T o n j = hintOf (getD T (o + rollLane n (printOf (getD T (o + j) 0))) 0)
-
--- hints are put from the last item on: those of item i and of later ones are right
-module _ (T : List ℕ) (o n : ℕ) where
-  pub record Hinting (i : ℕ) (T′ : List ℕ) : Type 0 where
-    pub low : i ≤ n
-    pub size : length T′ ≡ length T
-    pub kept : take o T′ ≡ take o T
-    pub print-kept : (j : ℕ) → j < n → printOf (getD T′ (o + j) 0) ≡ printOf (getD T (o + j) 0)
-    pub bare : (j : ℕ) → j < n → getD T (o + j) 0 < 2 ^ 40 → getD T′ (o + j) 0 < 2 ^ 40
-    pub hints : (j : ℕ) → i ≤ j → j < n → (0 < hintFor T′ o n j) × (hintFor T′ o n j ≤ j + 1)
-
-  pub hints-start : Hinting n T
-  hints-start = record { low = omega arith; size = refl; kept = refl; print-kept = λ j a. refl; bare = λ j a l. l; hints = λ j a b. absurd (omega arith) }
-
-  module _ {i : ℕ} {T′ : List ℕ} (g : Hinting i T′) where
-    pub hints-done : i ≤ 0 → PutsHints T o n T′
-    hints-done h = record {
-      size = g .size;
-      kept = g .kept;
-      print-kept = g .print-kept;
-      bare = g .bare;
-      hinted = record { some-hint = λ j a. g .hints j (omega arith) a .0; not-past = λ j a. g .hints j (omega arith) a .1 };
-    }
-
-    -- the turn of item i - 1, whose lane is c
-    module _ (few : n ≤ 255) (room : o + n ≤ length T) (more : 0 < i) {c : ℕ} (lane : c ≡ rollLane n (getD T′ (o + (i - 1)) 0 % 4294967296)) (on : c < n) where
-      abbrev w : ℕ
-      w = getD T′ (o + c) 0 % 4294967296 + (i - 1 + 1) * 4294967296
-
-      abbrev put : List ℕ
-      put = set T′ (o + c) w
-
-      here : getD put (o + c) 0 ≡ w
-      here = let y = g .size in getD-set-same T′ (o + c) w 0 (omega arith)
-
-      other : (j : ℕ) → (j ≡ c → ⊥) → getD put (o + j) 0 ≡ getD T′ (o + j) 0
-      other j d = getD-set-other T′ (o + c) (o + j) w 0 (λ (e : o + j ≡ o + c). d (omega arith))
-
-      print-same : (j : ℕ) → printOf (getD put (o + j) 0) ≡ printOf (getD T′ (o + j) 0)
-      print-same j = at (ℕ-discrete j c)
-        where
-          at : Dec (j ≡ c) → printOf (getD put (o + j) 0) ≡ printOf (getD T′ (o + j) 0)
-          at (yes e) = rw (e, here) (omega arith)
-          at (no d) = ap printOf (other j d)
-
-      still-bare : (j : ℕ) → getD T′ (o + j) 0 < 2 ^ 40 → getD put (o + j) 0 < 2 ^ 40
-      still-bare j l = at (ℕ-discrete j c)
-        where
-          at : Dec (j ≡ c) → getD put (o + j) 0 < 2 ^ 40
-          at (yes e) = let z = g .low in rw (e, here) (omega arith)
-          at (no d) = rw (other j d) l
-
-      hint-at : (j : ℕ) → i - 1 ≤ j → j < n → (0 < hintFor put o n j) × (hintFor put o n j ≤ j + 1)
-      hint-at j a b = rw (print-same j) (at (ℕ-discrete l c))
-        where
-          l : ℕ
-          l = rollLane n (printOf (getD T′ (o + j) 0))
-
-          later : (l ≡ c → ⊥) → i ≤ j
-          later d = by (ltb j i) (λ q. let h = ltb-true j i q in let e : j ≡ i - 1 = omega arith in absurd (d (ap (λ (k : ℕ). rollLane n (printOf (getD T′ (o + k) 0))) e ∙ sym lane))) (λ q. ltb-false j i q)
-
-          at : Dec (l ≡ c) → (0 < hintOf (getD put (o + l) 0)) × (hintOf (getD put (o + l) 0) ≤ j + 1)
-          at (yes e) = let z = g .low in rw (e, here) (omega arith, omega arith)
-          at (no d) = rw (other l d) (g .hints j (later d) b)
-
-      pub hints-more : Hinting (i - 1) put
-      hints-more = record {
-        low = let z = g .low in omega arith;
-        size = length-set T′ (o + c) w ∙ g .size;
-        kept = take-set-le o T′ (o + c) w (omega arith) ∙ g .kept;
-        print-kept = λ j a. print-same j ∙ g .print-kept j a;
-        bare = λ j a l. still-bare j (g .bare j a l);
-        hints = hint-at;
-      }
 
 -- the items before item i, which stands at place k, are put
 module _ (tagged : Bool) (s : List ℕ) (key first many : ℕ) (T : List ℕ) (q : ℕ) where
@@ -238,7 +160,7 @@ module _ {tagged : Bool} {s : List ℕ} {key first m : ℕ} (T : List ℕ) {q : 
       print-is = λ i a. rw key-put (h .print-kept i a ∙ (let y = small i a in let z : printOf (indexIn T₁ q m i) ≡ indexIn T₁ q m i = omega arith in z) ∙ p .print-is i a);
       hinted = h .hinted;
     };
-    bare = λ i a. h .bare i a (let y = small i a in omega arith);
+    bare = h .bare;
   }
 
 -- by one key after another
@@ -333,22 +255,9 @@ module _ (tagged : Bool) (s : List ℕ) (x : Name) where
       unprinted : (first n : ℕ) → Rolled tagged s T q first n → (i : ℕ) → i < n → (printOf (indexIn T q n i) ≡ p → ⊥) → hasName first i ≡ false
       unprinted first n r i a d = by (hasName first i) (λ t. absurd (d (r .print-is i a ∙ ap (printBy (factor (keyOn T q)) 0) (eqName-eq _ x t) ∙ rw (sym k) (sym e)))) (λ t. t)
 
-      -- and h the hint of its lane
-      module _ {c : ℕ} (lane : c ≡ rollLane (manyIn T q) p) where
-        abbrev h : ℕ
-        h = getD T (q + 1 + manyIn T q + c) 0 / 4294967296 % 256
-
-        hint-of : (first n : ℕ) → Rolled tagged s T q first n → (i : ℕ) → i < n → printOf (indexIn T q n i) ≡ p → (0 < h) × (h ≤ i + 1)
-        hint-of first n r i a z = rw (lane, r .many, ← z) (r .hinted .some-hint i a, r .hinted .not-past i a)
-
-        left-at : (i : ℕ) → ((j : ℕ) → j < i → 0 < h → h ≤ j + 1 → ⊥) → Left i
-        left-at i f = record { of = λ first n r. from-past first n i (λ j a b. unprinted first n r j b (λ z. let k = hint-of first n r j b z in f j a (k .0) (k .1))) }
-
-        pub find-unhinted : h ≡ 0 → FindsOn tagged s x T q Nothing
-        find-unhinted z = left-done (manyIn T q) (left-at (manyIn T q) (λ j a k l. omega arith)) (omega arith)
-
-        pub left-start : Left (h - 1)
-        left-start = left-at (h - 1) (λ j a k l. omega arith)
+      pub left-start : {i : ℕ} → StartsOn T (q + 1 + manyIn T q) (manyIn T q) p i → Left i
+      unfolding StartsOn
+      left-start {i} h = record { of = λ first n r. from-past first n i (λ j a b. unprinted first n r j b (λ z. let l = rw (r .many) at h (r .hinted) j b z in absurd (omega arith))) }
 
     -- item i's turn
     module _ (i : ℕ) (g : Left i) (h : i < manyIn T q) where

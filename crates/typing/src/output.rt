@@ -86,7 +86,7 @@ pub(crate) fn find_variant<'a>(
     ensures { λ r. ⌜ FindsVariant (now (doc .entry)) (now (outputs .entry)) k variants (now (name .entry)) r ⌝ }
 {
     let n = word(outputs, 0) % 256;
-    let q = word(outputs, 1 + n + k) / 1099511627776;
+    let q = word(outputs, 1 + n + k) / 281474976710656;
     if q == 0 {
         return first_variant(doc, variants, name);
     }

@@ -11,9 +11,9 @@ use crate::table::Found;
 use crate::table::after;
 use reading::text_at;
 ghost use mathlib.Core.Path.{_≡_};
-ghost use Prim.Native.Nat.{_+_, _*_, _<_, _≤_};
-ghost use lib.ListN.{length};
-ghost use Rattle.typing.specs.Rolls.{nameAt, rollLane, FindsOn, WithinTable, PutsItems, PutsHints, PutsKeyed, PutsRoll, RollsOne, FillsOutputs};
+ghost use Prim.Native.Nat.{ℕ, _+_, _*_, _<_, _≤_};
+ghost use lib.ListN.{length, getD};
+ghost use Rattle.typing.specs.Rolls.{printOf, nameAt, rollLane, Chained, StartsOn, nextFrom, PutsLinks, FindsOn, WithinTable, PutsItems, PutsHints, PutsKeyed, PutsRoll, RollsOne, FillsOutputs};
 
 // Where the name of the item at a place stands.
 fn name_at(doc: &[u8], at: usize, tagged: bool) -> usize
@@ -32,6 +32,32 @@ fn roll_lane(p: u32, n: usize) -> usize
     ensures { λ r. ⌜ r < n ⌝ }
 {
     (spread(p) / 65536) as usize % n
+}
+
+// The number of the first item of a print, by the n index words from word o on; n where no item has it.
+fn roll_start(table: &[usize], o: usize, n: usize, p: u32) -> usize
+    requires { ⌜ 0 < n ⌝ }
+    requires { ⌜ n ≤ 255 ⌝ }
+    requires { ⌜ o + n ≤ length (now table) ⌝ }
+    ensures { λ r. ⌜ StartsOn (now (table .entry)) o n p r ⌝ }
+{
+    let mut h = table[o + roll_lane(p, n)] / 4294967296 % 256;
+    let mut left = n;
+    while 0 < left {
+        if h == 0 {
+            return n;
+        }
+        if n < h {
+            return n;
+        }
+        let w = table[o + (h - 1)];
+        if w % 4294967296 == p as usize {
+            return h - 1;
+        }
+        h = w / 1099511627776 % 256;
+        left -= 1;
+    }
+    n
 }
 
 // The number of the first item with the name, on the roll at word q.
@@ -59,11 +85,7 @@ pub(crate) fn roll_find<'a>(
     }
     let p = print_by(name, 0, factor(w / 256));
     let o = q + 1 + n;
-    let h = table[o + roll_lane(p, n)] / 4294967296 % 256;
-    if h == 0 {
-        return Found::Nothing;
-    }
-    let mut i = h - 1;
+    let mut i = roll_start(table, o, n, p);
     while i < n {
         if table[o + i] % 4294967296 == p as usize {
             if same(text_at(doc, name_at(doc, table[q + 1 + i], tagged)), name) {
@@ -100,18 +122,69 @@ fn put_items(
     }
 }
 
-// Gives the n index words from word o on their hints, from the last item on, so that each is that of the first of its lane.
+// What an item is linked to, where its lane goes on at a hint: the item there, or where that has the same print what it is linked to.
+fn next_from(table: &[usize], o: usize, i: usize, hint: u8, nexts: &[u8]) -> u8
+    requires { ⌜ o + i < length (now table) ⌝ }
+    requires { ⌜ o + hint ≤ length (now table) ⌝ }
+    requires { ⌜ length (now nexts) ≡ 256 ⌝ }
+    ensures { λ r. ⌜ r ≡ nextFrom (now (table .entry)) o i hint (now (nexts .entry)) ⌝ }
+{
+    if hint == 0 {
+        return 0;
+    }
+    let j = (hint - 1) as usize;
+    if table[o + j] % 4294967296 == table[o + i] % 4294967296 {
+        return nexts[j];
+    }
+    hint
+}
+
+// Links the n items whose index words stand from word o on along their lanes, from the last on.
+fn link_items(table: &[usize], o: usize, n: usize, hints: &mut [u8], nexts: &mut [u8])
+    requires { ⌜ n ≤ 255 ⌝ }
+    requires { ⌜ o + n ≤ length (now table) ⌝ }
+    requires { ⌜ length (now hints) ≡ 256 ⌝ }
+    requires { ⌜ length (now nexts) ≡ 256 ⌝ }
+    requires { ⌜ ((h : ℕ) → getD (now hints) h 0 ≡ 0) ⌝ }
+    ensures { λ _. ⌜ Chained (λ i. printOf (getD (now (table .entry)) (o + i) 0)) n (λ h. getD (now (hints .exit)) h 0) (λ i. getD (now (nexts .exit)) i 0) ⌝ }
+    ensures { λ _. ⌜ length (now (hints .exit)) ≡ 256 ⌝ }
+    ensures { λ _. ⌜ length (now (nexts .exit)) ≡ 256 ⌝ }
+{
+    let mut i = n;
+    while 0 < i {
+        i -= 1;
+        let lane = roll_lane((table[o + i] % 4294967296) as u32, n);
+        nexts[i] = next_from(table, o, i, hints[lane], nexts);
+        hints[lane] = (i + 1) as u8;
+    }
+}
+
+// Puts the hints and nexts of n items into their index words, from word o on.
+fn put_links<'a>(table: &mut [usize], o: usize, n: usize, hints: &'a [u8], nexts: &'a [u8])
+    requires { ⌜ n ≤ 255 ⌝ }
+    requires { ⌜ o + n ≤ length (now table) ⌝ }
+    requires { ⌜ length (now hints) ≡ 256 ⌝ }
+    requires { ⌜ length (now nexts) ≡ 256 ⌝ }
+    ensures { λ _. ⌜ PutsLinks (now (table .entry)) o n (now (hints .entry)) (now (nexts .entry)) (now (table .exit)) ⌝ }
+{
+    let mut i: usize = 0;
+    while i < n {
+        let links = (hints[i] as usize) + (nexts[i] as usize) * 256;
+        table[o + i] = table[o + i] % 4294967296 + links * 4294967296;
+        i += 1;
+    }
+}
+
+// Gives the n index words from word o on their hints and nexts.
 fn put_hints(table: &mut [usize], o: usize, n: usize)
     requires { ⌜ n ≤ 255 ⌝ }
     requires { ⌜ o + n ≤ length (now table) ⌝ }
     ensures { λ _. ⌜ PutsHints (now (table .entry)) o n (now (table .exit)) ⌝ }
 {
-    let mut i = n;
-    while 0 < i {
-        i -= 1;
-        let h = o + roll_lane((table[o + i] % 4294967296) as u32, n);
-        table[h] = table[h] % 4294967296 + (i + 1) * 4294967296;
-    }
+    let mut hints = [0u8; 256];
+    let mut nexts = [0u8; 256];
+    link_items(table, o, n, &mut hints, &mut nexts);
+    put_links(table, o, n, &hints, &nexts);
 }
 
 // Puts a roll of so many items from a place on from word q on, by a key.
@@ -236,9 +309,11 @@ fn roll_variants(doc: &[u8], table: &mut [usize], n: usize, k: usize, q: usize) 
     requires { ⌜ k < n ⌝ }
     requires { ⌜ 1 + n + k < q ⌝ }
     requires { ⌜ q ≤ length (now table) ⌝ }
-    requires { ⌜ q ≤ 0xff_ffff ⌝ }
     ensures { λ r. ⌜ RollsOne (now (doc .entry)) (now (table .entry)) n k q r (now (table .exit)) ⌝ }
 {
+    if 65535 < q {
+        return q;
+    }
     let name = after_head(doc, table[1 + k]);
     let list = after(doc, name);
     let r = fill_roll(doc, list, true, 17, table, q);
@@ -246,7 +321,7 @@ fn roll_variants(doc: &[u8], table: &mut [usize], n: usize, k: usize, q: usize) 
         return q;
     }
     let x = 1 + n + k;
-    table[x] = table[x] % 1099511627776 + q * 1099511627776;
+    table[x] = table[x] % 281474976710656 + q * 281474976710656;
     q + r
 }
 

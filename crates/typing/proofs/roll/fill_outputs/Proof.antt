@@ -17,10 +17,10 @@ slice-read-n : tie.Need-slice-read-n Inv-loop μ-loop
 slice-read-n c = let l = c .before .before .before .fill-roll .ensures .0 .size in omega arith
 
 loop-holds : tie.Need-loop-holds Inv-loop μ-loop
-loop-holds c = let f = c .before .before .before .fill-roll .ensures in rolling-start _ _ _ (f .0) (f .1 .0) (f .1 .1 refl (omega arith)) refl
+loop-holds c = let f = c .before .before .before .fill-roll .ensures in rolling-start _ _ _ (f .0) (f .1 .1 refl (omega arith)) refl
 
 roll-variants-requires : tie.Need-roll-variants-requires Inv-loop μ-loop
-roll-variants-requires c κs = (omega arith, (omega arith, (omega arith, omega arith)))
+roll-variants-requires c κs = (omega arith, (omega arith, omega arith))
 
 returns : tie.Need-returns Inv-loop μ-loop
 returns c = let f = c .before .before .before .before .before .fill-roll .ensures in rolling-done _ _ _ (c .before .loop .inv) (f .0) (f .1 .1 refl (omega arith)) (omega arith)
