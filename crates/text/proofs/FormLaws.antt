@@ -1,4 +1,4 @@
--- What each byte of a form stands for; and a form with fewer arguments.
+-- What each byte of a form stands for.
 use Prim.Native.Nat.{ℕ, suc, _+_, _-_, _<_, _≤_}
 use native.Mathlib.Nat.{sub-self}
 use native.Mathlib.Omega.{arith}
@@ -13,7 +13,6 @@ use mathlib.Core.Bool.{Bool, true, false}
 use Rattle.text.specs.Form.{format, Plain, PlainTo, Opens, beyond}
 use Rattle.text.specs.Said.{shown}
 use Rattle.text.specs.declared.said.Arg.{Arg}
-use Rattle.text.specs.declared.said.Arg.the-variants.{Blank}
 
 module _ (t : List ℕ) (i : ℕ) (h : i < length t) where
   at-drop : drop i t ≡ getD t i 0 ∷ drop (i + 1) t
@@ -109,42 +108,3 @@ module _ (t s : List ℕ) (as′ : List Arg) (i j n m e : ℕ) (five : length as
           let l = ltb-false j (length t) h in
           let q : e ≡ j = omega (arith, p .within) in
           rw q
-
--- an empty argument more at the end changes nothing
-pub format-blank : (t : List ℕ) (as′ : List (List ℕ)) → format t (as′ ++ ([] ∷ [])) ≡ format t as′
-unfolding format
-format-blank [] as′ = refl
-format-blank (c ∷ t) [] = rw (format-blank t [])
-format-blank (c ∷ t) (a ∷ as′) = rw (format-blank t as′, format-blank t (a ∷ as′))
-
--- a form of fewer arguments as one of five
-pub format-none : (s t : List ℕ) → format t [] ≡ format t (map (shown s) (Blank ∷ Blank ∷ Blank ∷ Blank ∷ Blank ∷ []))
-unfolding shown
-format-none s t = sym (
-    format-blank t ([] ∷ [] ∷ [] ∷ [] ∷ [])
-    ∙ format-blank t ([] ∷ [] ∷ [] ∷ [])
-    ∙ format-blank t ([] ∷ [] ∷ [])
-    ∙ format-blank t ([] ∷ [])
-    ∙ format-blank t [])
-
-module _ (s t : List ℕ) (a : Arg) where
-  pub format-one : format t (shown s a ∷ []) ≡ format t (map (shown s) (a ∷ Blank ∷ Blank ∷ Blank ∷ Blank ∷ []))
-  unfolding shown
-  format-one = sym (
-      format-blank t (shown s a ∷ [] ∷ [] ∷ [] ∷ [])
-      ∙ format-blank t (shown s a ∷ [] ∷ [] ∷ [])
-      ∙ format-blank t (shown s a ∷ [] ∷ [])
-      ∙ format-blank t (shown s a ∷ []))
-
-  pub format-two : (b : Arg) → format t (shown s a ∷ shown s b ∷ []) ≡ format t (map (shown s) (a ∷ b ∷ Blank ∷ Blank ∷ Blank ∷ []))
-  unfolding shown
-  format-two b = sym (
-      format-blank t (shown s a ∷ shown s b ∷ [] ∷ [] ∷ [])
-      ∙ format-blank t (shown s a ∷ shown s b ∷ [] ∷ [])
-      ∙ format-blank t (shown s a ∷ shown s b ∷ []))
-
-  pub format-three : (b c : Arg) → format t (shown s a ∷ shown s b ∷ shown s c ∷ []) ≡ format t (map (shown s) (a ∷ b ∷ c ∷ Blank ∷ Blank ∷ []))
-  unfolding shown
-  format-three b c = sym (
-      format-blank t (shown s a ∷ shown s b ∷ shown s c ∷ [] ∷ [])
-      ∙ format-blank t (shown s a ∷ shown s b ∷ shown s c ∷ []))

@@ -35,7 +35,7 @@ neither true b c x y z h = never h
 neither false true c x y z h = never h
 neither false false c x y z h = (refl, h)
 
-format-plain : (p f : List ℕ) (as′ : List (List ℕ)) → plain p ≡ true → format (p ++ f) as′ ≡ p ++ format f as′
+pub format-plain : (p f : List ℕ) (as′ : List (List ℕ)) → plain p ≡ true → format (p ++ f) as′ ≡ p ++ format f as′
 unfolding format plain
 format-plain [] f as′ h = refl
 format-plain (c ∷ p) f as′ h =

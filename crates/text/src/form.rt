@@ -8,7 +8,7 @@ use crate::shown::put_type;
 use crate::shown::put_what;
 ghost use Prim.Native.Nat.{_+_, _≤_};
 ghost use mathlib.Core.Path.{_≡_};
-ghost use mathlib.Core.List.{[], _∷_, map};
+ghost use mathlib.Core.List.{map};
 ghost use lib.ListN.{length};
 ghost use Rattle.text.specs.Form.{format, PlainTo, Opens, beyond};
 ghost use Rattle.text.specs.Put.{Put};
@@ -93,52 +93,4 @@ pub(crate) fn put_form(out: &mut [u8], at: usize, doc: &[u8], form: &[u8], args:
         }
     }
     k
-}
-
-// Puts a form of no argument.
-pub(crate) fn put_words(out: &mut [u8], at: usize, doc: &[u8], form: &[u8]) -> usize
-    requires { ⌜ (at ≤ 0x400_0000) × (length (now doc) ≤ 0xffff) × (length (now form) ≤ 0xfff) ⌝ }
-    ensures { λ r. ⌜ Put (now (out .entry)) at (format (now (form .entry)) []) r (now (out .exit)) ⌝ }
-    ensures { λ r. ⌜ r ≤ at + 0x29_0000 ⌝ }
-{
-    let e = Arg::Blank;
-    put_form(out, at, doc, form, [e, e, e, e, e])
-}
-
-// Puts a form of one argument.
-pub(crate) fn put_one(out: &mut [u8], at: usize, doc: &[u8], form: &[u8], a: Arg) -> usize
-    requires { ⌜ (at ≤ 0x400_0000) × (length (now doc) ≤ 0xffff) × (length (now form) ≤ 0xfff) ⌝ }
-    ensures { λ r. ⌜ Put (now (out .entry)) at (format (now (form .entry)) (shown (now (doc .entry)) a ∷ [])) r (now (out .exit)) ⌝ }
-    ensures { λ r. ⌜ r ≤ at + 0x29_0000 ⌝ }
-{
-    let e = Arg::Blank;
-    put_form(out, at, doc, form, [a, e, e, e, e])
-}
-
-// Puts a form of two arguments.
-pub(crate) fn put_two(out: &mut [u8], at: usize, doc: &[u8], form: &[u8], a: Arg, b: Arg) -> usize
-    requires { ⌜ (at ≤ 0x400_0000) × (length (now doc) ≤ 0xffff) × (length (now form) ≤ 0xfff) ⌝ }
-    ensures { λ r. ⌜ Put (now (out .entry)) at (format (now (form .entry)) (shown (now (doc .entry)) a ∷ shown (now (doc .entry)) b ∷ [])) r (now (out .exit)) ⌝ }
-    ensures { λ r. ⌜ r ≤ at + 0x29_0000 ⌝ }
-{
-    let e = Arg::Blank;
-    put_form(out, at, doc, form, [a, b, e, e, e])
-}
-
-// Puts a form of three arguments.
-pub(crate) fn put_three(
-    out: &mut [u8],
-    at: usize,
-    doc: &[u8],
-    form: &[u8],
-    a: Arg,
-    b: Arg,
-    c: Arg,
-) -> usize
-    requires { ⌜ (at ≤ 0x400_0000) × (length (now doc) ≤ 0xffff) × (length (now form) ≤ 0xfff) ⌝ }
-    ensures { λ r. ⌜ Put (now (out .entry)) at (format (now (form .entry)) (shown (now (doc .entry)) a ∷ shown (now (doc .entry)) b ∷ shown (now (doc .entry)) c ∷ [])) r (now (out .exit)) ⌝ }
-    ensures { λ r. ⌜ r ≤ at + 0x29_0000 ⌝ }
-{
-    let e = Arg::Blank;
-    put_form(out, at, doc, form, [a, b, c, e, e])
 }

@@ -4,6 +4,7 @@
 mod aft;
 mod blame;
 mod cause;
+mod causes;
 mod decimal;
 mod entry;
 mod finding;

@@ -5,15 +5,15 @@ use Rattle.typing.specs.Means.{causeOf}
 use Rattle.text.specs.CauseText.{causeText}
 use Rattle.text.proofs.PieceLaws.{plain}
 use Rattle.text.proofs.CauseLaws.{one-told}
-use Rattle.text.proofs.cause.put_identifier.Statement.{statement}
-use Rattle.text.proofs.cause.put_identifier.Tie as tie
+use Rattle.text.proofs.causes.put_unit_fields.Statement.{statement}
+use Rattle.text.proofs.causes.put_unit_fields.Tie as tie
 
 returns : tie.Need-returns
 unfolding causeText causeOf plain
 returns c = (one-told _ (c .before .before .put-name .ensures .0) refl refl refl, search needs)
 
-pub put-identifier-spec : {M : Type 1} → statement M
-put-identifier-spec =
+pub put-unit-fields-spec : {M : Type 1} → statement M
+put-unit-fields-spec =
     tie.close
     (tie.spec
     (λ c. search needs)

@@ -1,12 +1,12 @@
--- One text after another.
+-- The name with bytes around it, and the numbers.
 use mathlib.Core.Path.{refl}
 use borrow.Author.Needs.{needs}
 use Rattle.typing.specs.Means.{causeOf}
 use Rattle.text.specs.CauseText.{causeText}
 use Rattle.text.proofs.PieceLaws.{plain}
-use Rattle.text.proofs.CauseLaws.{two-told}
-use Rattle.text.proofs.cause.put_mismatch.Statement.{statement}
-use Rattle.text.proofs.cause.put_mismatch.Tie as tie
+use Rattle.text.proofs.CauseLaws.{three-told}
+use Rattle.text.proofs.causes.put_field_count.Statement.{statement}
+use Rattle.text.proofs.causes.put_field_count.Tie as tie
 
 returns : tie.Need-returns
 unfolding causeText causeOf plain
@@ -15,12 +15,13 @@ returns c =
     let c3 = c4 .before .before .before .before in
     let c2 = c3 .before .before .before .before .before in
     let c1 = c2 .before .before .before .before in
-    (two-told _ (c1 .put-bytes .ensures) (c2 .put-type .ensures .0) (c3 .put-bytes2 .ensures) (c4 .put-type2 .ensures .0) refl refl refl, search needs)
+    (three-told _ (c1 .put-name .ensures .0) (c2 .put-decimal .ensures .0) (c3 .put-bytes .ensures) (c4 .put-decimal2 .ensures .0) refl refl refl refl, search needs)
 
-pub put-mismatch-spec : {M : Type 1} → statement M
-put-mismatch-spec =
+pub put-field-count-spec : {M : Type 1} → statement M
+put-field-count-spec =
     tie.close
     (tie.spec
+    (λ c. search needs)
     (λ c. search needs)
     (λ c κs. search needs)
     (λ c κs. search needs)
