@@ -72,6 +72,7 @@ pub use output::validate_output_expr;
 pub use path::resolve_path;
 pub use pattern::pattern_expr_compatible;
 pub use roll::fill_outputs;
+pub use roll::outgrows;
 pub use rules::Fit;
 pub use rules::binary_type;
 pub use rules::compatible_with;

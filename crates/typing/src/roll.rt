@@ -325,6 +325,37 @@ fn roll_variants(doc: &[u8], table: &mut [usize], n: usize, k: usize, q: usize) 
     q + r
 }
 
+// How many words the roll of so many variants takes; those of few have none.
+fn roll_words(many: u64) -> usize
+    ensures { λ r. ⌜ r ≤ 511 ⌝ }
+{
+    if many < 17 {
+        return 0;
+    }
+    if 255 < many {
+        return 0;
+    }
+    2 * (many as usize) + 1
+}
+
+// Whether the rolls of the list of groups at a place take more words than there are.
+pub fn outgrows(doc: &[u8], at: usize, room: usize) -> bool {
+    let e = entries_at(doc, at);
+    let mut words = 2 * (e.many as usize) + 1;
+    let mut k = e.first;
+    let mut left = e.many;
+    while 0 < left {
+        let variants = after(doc, after_head(doc, k));
+        words += roll_words(entries_at(doc, variants).many);
+        if room < words {
+            return true;
+        }
+        k = after(doc, k);
+        left -= 1;
+    }
+    false
+}
+
 // Fills a table of outputs from the list of groups at a place: a roll of the groups, and of the variants of those that have many.
 pub fn fill_outputs(doc: &[u8], at: usize, table: &mut [usize])
     requires { ⌜ 511 ≤ length (now table) ⌝ }
