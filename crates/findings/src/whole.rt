@@ -11,6 +11,7 @@ use reading::Cursor;
 use typing::Found;
 use typing::after;
 use typing::after_head;
+use typing::outgrows;
 use typing::word;
 ghost use mathlib.Core.Path.{_≡_};
 ghost use Prim.Native.Nat.{_+_, _-_, _≤_, _^_};
@@ -252,11 +253,118 @@ fn walk_named<'a>(
     )
 }
 
-// Both walks over the module at a place. The tables are filled anew.
+// Both walks over the module at a place, of which the places of its fields and of its transitions' fields are known.
+fn walk_opened<'a>(
+    doc: &'a [u8],
+    at: usize,
+    listed: Listed,
+    owner: u32,
+    places: &'a [usize],
+    rows: &'a [usize],
+    prints: &'a [u32],
+    table: &mut [usize],
+    enums: &mut [usize],
+    claims: &mut [usize],
+    out: &mut [u32],
+    skip: usize,
+    n: usize,
+    aside: &mut [u32],
+    leave: usize,
+    k: usize,
+) -> Passed
+    requires { ⌜ Opens (now doc) at listed (now places) (now rows) ⌝ }
+    requires { ⌜ Printed (now doc) (now rows) (listed .count) (now prints) ⌝ }
+    requires { ⌜ 768 ≤ length (now prints) ⌝ }
+    requires { ⌜ 1658 ≤ length (now table) ⌝ }
+    requires { ⌜ 829 ≤ length (now enums) ⌝ }
+    requires { ⌜ length (now claims) ≡ 1020 ⌝ }
+    requires { ⌜ n + 33295864 ≤ 2 ^ 40 ⌝ }
+    requires { ⌜ k + 33228540 ≤ 2 ^ 40 ⌝ }
+    ensures { λ r. ⌜ WalksModule (now (doc .entry)) (now (out .entry)) skip n (r .errors) (now (out .exit)) (now (aside .entry)) leave k (r .warnings) (now (aside .exit)) owner at (r .end) ⌝ }
+    ensures { λ r. ⌜ r .errors ≤ n + 33295864 ⌝ }
+    ensures { λ r. ⌜ r .warnings ≤ k + 33228540 ⌝ }
+{
+    let totals = walk_named(
+        doc,
+        owner,
+        places,
+        rows,
+        prints,
+        listed.count,
+        table,
+        enums,
+        claims,
+        out,
+        skip,
+        n,
+        aside,
+        leave,
+        k,
+    );
+    Passed {
+        errors: totals.errors,
+        warnings: totals.warnings,
+        end: listed.end,
+    }
+}
+
+// The same, where they are yet to be filled, with places that have room for some 7,900 variants of outputs.
+fn walk_wide(
+    doc: &[u8],
+    at: usize,
+    owner: u32,
+    rows: &mut [usize],
+    prints: &mut [u32],
+    table: &mut [usize],
+    enums: &mut [usize],
+    claims: &mut [usize],
+    out: &mut [u32],
+    skip: usize,
+    n: usize,
+    aside: &mut [u32],
+    leave: usize,
+    k: usize,
+) -> Passed
+    requires { ⌜ 2040 ≤ length (now rows) ⌝ }
+    requires { ⌜ 768 ≤ length (now prints) ⌝ }
+    requires { ⌜ 1658 ≤ length (now table) ⌝ }
+    requires { ⌜ 829 ≤ length (now enums) ⌝ }
+    requires { ⌜ length (now claims) ≡ 1020 ⌝ }
+    requires { ⌜ n + 33295864 ≤ 2 ^ 40 ⌝ }
+    requires { ⌜ k + 33228540 ≤ 2 ^ 40 ⌝ }
+    ensures { λ r. ⌜ WalksModule (now (doc .entry)) (now (out .entry)) skip n (r .errors) (now (out .exit)) (now (aside .entry)) leave k (r .warnings) (now (aside .exit)) owner at (r .end) ⌝ }
+    ensures { λ r. ⌜ r .errors ≤ n + 33295864 ⌝ }
+    ensures { λ r. ⌜ r .warnings ≤ k + 33228540 ⌝ }
+{
+    let mut places = [0usize; 16384];
+    let listed = open_printed(doc, at, &mut places, rows, prints);
+    walk_opened(
+        doc,
+        at,
+        listed,
+        owner,
+        &places,
+        rows,
+        prints,
+        table,
+        enums,
+        claims,
+        out,
+        skip,
+        n,
+        aside,
+        leave,
+        k,
+    )
+}
+
+// Both walks over the module at a place. The tables are filled anew. Where its outputs have more variants than the places have room for it takes one
+// turn less, and when none is left places of its own: that it calls itself keeps the frame of `walk_wide` out of its own.
 fn walk_module(
     doc: &[u8],
     at: usize,
     owner: u32,
+    turns: u8,
     places: &mut [usize],
     rows: &mut [usize],
     prints: &mut [u32],
@@ -282,14 +390,53 @@ fn walk_module(
     ensures { λ r. ⌜ r .errors ≤ n + 33295864 ⌝ }
     ensures { λ r. ⌜ r .warnings ≤ k + 33228540 ⌝ }
 {
+    if turns == 0 {
+        return walk_wide(
+            doc,
+            at,
+            owner,
+            rows,
+            prints,
+            table,
+            enums,
+            claims,
+            out,
+            skip,
+            n,
+            aside,
+            leave,
+            k,
+        );
+    }
     let listed = open_printed(doc, at, places, rows, prints);
-    let totals = walk_named(
+    if outgrows(doc, word(places, 6), 1022) {
+        return walk_module(
+            doc,
+            at,
+            owner,
+            turns - 1,
+            places,
+            rows,
+            prints,
+            table,
+            enums,
+            claims,
+            out,
+            skip,
+            n,
+            aside,
+            leave,
+            k,
+        );
+    }
+    walk_opened(
         doc,
+        at,
+        listed,
         owner,
         places,
         rows,
         prints,
-        listed.count,
         table,
         enums,
         claims,
@@ -299,12 +446,15 @@ fn walk_module(
         aside,
         leave,
         k,
-    );
-    Passed {
-        errors: totals.errors,
-        warnings: totals.warnings,
-        end: listed.end,
+    )
+}
+
+// How many turns a walk over a module has: one where a document is so long that it may need more room.
+fn turns_of(doc: &[u8]) -> u8 {
+    if doc.len() < 2048 {
+        return 2;
     }
+    1
 }
 
 // Both walks over each module of the list at a place.
@@ -353,6 +503,7 @@ fn walk_modules(
             doc,
             here,
             i as u32,
+            turns_of(doc),
             places,
             rows,
             prints,

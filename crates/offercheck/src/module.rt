@@ -3,6 +3,7 @@ use crate::line::look_up_words;
 use crate::line::put_line;
 use crate::line::word_at;
 use crate::output::print_full;
+use findings::Listed;
 use findings::Ready;
 use findings::name_module;
 use findings::open_module;
@@ -11,10 +12,13 @@ use text::Near;
 use text::module_after;
 use text::module_at;
 use typing::Found;
+use typing::outgrows;
+use typing::word;
 ghost use mathlib.Core.Path.{_≡_};
 ghost use Prim.Native.Nat.{_<_, _≤_};
 ghost use lib.ListN.{length};
 ghost use Rattle.typing.specs.declared.table.Found.the-variants.{At};
+ghost use Rattle.findings.specs.Scene.{Opens};
 ghost use Rattle.text.specs.Near.{KeptModule, PickedModule};
 
 // How far a list is put: the number of the next finding, where the page has room for its line, and the module after the last, which is near.
@@ -159,7 +163,117 @@ fn print_named<'a>(
     )
 }
 
-// The same for module number k, which stands at a place, where no table is filled yet.
+// The same for module number k, which stands at a place, where the places of its fields and of its transitions' fields are filled.
+fn print_opened<'a>(
+    doc: &'a [u8],
+    words: &'a [u32],
+    all: usize,
+    warning: bool,
+    from: Reached,
+    k: usize,
+    at: usize,
+    listed: Listed,
+    places: &'a [usize],
+    rows: &'a [usize],
+    table: &mut [usize],
+    enums: &mut [usize],
+    claims: &mut [usize],
+    page: &mut [u8],
+) -> Reached
+    requires { ⌜ PickedModule (now doc) k (At at) ⌝ }
+    requires { ⌜ k ≤ 0xffff_ffff ⌝ }
+    requires { ⌜ length (now doc) ≤ 0xffff ⌝ }
+    requires { ⌜ all ≤ 0xffff ⌝ }
+    requires { ⌜ from .next < all ⌝ }
+    requires { ⌜ from .at ≤ 0xc000 ⌝ }
+    requires { ⌜ Opens (now doc) at listed (now places) (now rows) ⌝ }
+    requires { ⌜ 1658 ≤ length (now table) ⌝ }
+    requires { ⌜ 829 ≤ length (now enums) ⌝ }
+    requires { ⌜ length (now claims) ≡ 1020 ⌝ }
+    ensures { λ r. ⌜ from .next < r .next ⌝ }
+    ensures { λ r. ⌜ r .at ≤ 0xc000 ⌝ }
+    ensures { λ r. ⌜ KeptModule (now (doc .entry)) (r .near) ⌝ }
+{
+    let onward = Reached {
+        next: from.next,
+        at: from.at,
+        near: module_after(doc, k, listed.end),
+    };
+    print_named(
+        doc,
+        words,
+        all,
+        warning,
+        onward,
+        places,
+        rows,
+        listed.count,
+        table,
+        enums,
+        claims,
+        page,
+    )
+}
+
+// The same, where they are not filled yet, with places that have room for some 7,900 variants of outputs.
+fn print_wide<'a>(
+    doc: &'a [u8],
+    words: &'a [u32],
+    all: usize,
+    warning: bool,
+    from: Reached,
+    k: usize,
+    at: usize,
+    rows: &mut [usize],
+    table: &mut [usize],
+    enums: &mut [usize],
+    claims: &mut [usize],
+    page: &mut [u8],
+) -> Reached
+    requires { ⌜ PickedModule (now doc) k (At at) ⌝ }
+    requires { ⌜ k ≤ 0xffff_ffff ⌝ }
+    requires { ⌜ length (now doc) ≤ 0xffff ⌝ }
+    requires { ⌜ all ≤ 0xffff ⌝ }
+    requires { ⌜ from .next < all ⌝ }
+    requires { ⌜ from .at ≤ 0xc000 ⌝ }
+    requires { ⌜ 2040 ≤ length (now rows) ⌝ }
+    requires { ⌜ 1658 ≤ length (now table) ⌝ }
+    requires { ⌜ 829 ≤ length (now enums) ⌝ }
+    requires { ⌜ length (now claims) ≡ 1020 ⌝ }
+    ensures { λ r. ⌜ from .next < r .next ⌝ }
+    ensures { λ r. ⌜ r .at ≤ 0xc000 ⌝ }
+    ensures { λ r. ⌜ KeptModule (now (doc .entry)) (r .near) ⌝ }
+{
+    let mut places = [0usize; 16384];
+    let listed = open_module(doc, at, &mut places, rows);
+    print_opened(
+        doc,
+        words,
+        all,
+        warning,
+        from,
+        k,
+        at,
+        listed,
+        &places,
+        rows,
+        table,
+        enums,
+        claims,
+        page,
+    )
+}
+
+// Whether the outputs of a module have more variants than its places have room for; warnings need none of them.
+fn needs_room(doc: &[u8], places: &[usize], warning: bool) -> bool {
+    if warning {
+        return false;
+    }
+    outgrows(doc, word(places, 6), 1022)
+}
+
+// The same with the places given. Where they have too little room it takes one turn less, and when none is left places of its own: that it calls itself
+// keeps the frame of `print_wide` out of its own.
 fn print_at<'a>(
     doc: &'a [u8],
     words: &'a [u32],
@@ -168,6 +282,7 @@ fn print_at<'a>(
     from: Reached,
     k: usize,
     at: usize,
+    turns: u8,
     places: &mut [usize],
     rows: &mut [usize],
     table: &mut [usize],
@@ -190,26 +305,65 @@ fn print_at<'a>(
     ensures { λ r. ⌜ r .at ≤ 0xc000 ⌝ }
     ensures { λ r. ⌜ KeptModule (now (doc .entry)) (r .near) ⌝ }
 {
+    if turns == 0 {
+        return print_wide(
+            doc,
+            words,
+            all,
+            warning,
+            from,
+            k,
+            at,
+            rows,
+            table,
+            enums,
+            claims,
+            page,
+        );
+    }
     let listed = open_module(doc, at, places, rows);
-    let onward = Reached {
-        next: from.next,
-        at: from.at,
-        near: module_after(doc, k, listed.end),
-    };
-    print_named(
+    if needs_room(doc, places, warning) {
+        return print_at(
+            doc,
+            words,
+            all,
+            warning,
+            from,
+            k,
+            at,
+            turns - 1,
+            places,
+            rows,
+            table,
+            enums,
+            claims,
+            page,
+        );
+    }
+    print_opened(
         doc,
         words,
         all,
         warning,
-        onward,
+        from,
+        k,
+        at,
+        listed,
         places,
         rows,
-        listed.count,
         table,
         enums,
         claims,
         page,
     )
+}
+
+// How many turns it has.
+fn turns_for(warning: bool) -> u8 {
+    if warning {
+        return 2;
+    }
+    1
 }
 
 // The same for any module; where there is none, the list is at its end.
@@ -258,6 +412,7 @@ pub(crate) fn print_module<'a>(
         from,
         k,
         at,
+        turns_for(warning),
         places,
         rows,
         table,

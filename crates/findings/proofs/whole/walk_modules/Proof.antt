@@ -43,6 +43,7 @@ walk-modules-spec =
     (λ c. (search go-refused, (omega arith, omega arith)))
     loop-holds
     (λ c. omega arith)
+    (λ c κs. search needs)
     walk-module-requires
     (λ c. omega arith)
     (λ c. omega arith)

@@ -1,0 +1,24 @@
+-- The places and the prints, then the walks.
+use borrow.Author.Needs.{needs}
+use native.Mathlib.Omega.{arith}
+use Rattle.findings.proofs.whole.walk_wide.Statement.{statement}
+use Rattle.findings.proofs.whole.walk_wide.Tie as tie
+
+pub walk-wide-spec : {M : Type 1} → statement M
+walk-wide-spec =
+    tie.close
+    (tie.spec
+    (λ c. search needs)
+    (λ c κs. search needs)
+    (λ c. search needs)
+    (λ c κs.
+    let p = c .before .before .before .before .before .before .before .before .before .before .before .before .before .before .before .before .before .before .before .before .before .before .before .before .before .pre .1 .1 in
+    (search needs, (search needs, (search needs, (omega (arith, p .0), (omega (arith, p .1 .0), (omega (arith, p .1 .1 .0), (omega (arith, p .1 .1 .1 .0), omega (arith, p .1 .1 .1 .1)))))))))
+    (λ c. search needs)
+    (λ c. search needs)
+    (λ c. search needs)
+    (λ c. search needs)
+    (λ c. search needs)
+    (λ c. search needs)
+    (λ c. search needs)
+    (λ c. search needs))
