@@ -1,6 +1,7 @@
 -- A message that is put is what the definition says, and the lent bytes keep their length.
 use Prim.Native.Nat.{ℕ, _-_, _≤_}
 use mathlib.Core.Path.{_≡_, refl, sym, ap, subst, _∙_}
+use mathlib.Core.Bool.{Bool, true}
 use mathlib.Core.List.{List}
 use mathlib.Core.Option.{Option}
 use lib.ListN.{length, take}
@@ -11,9 +12,9 @@ use Rattle.reading.specs.Module.{Module}
 use Rattle.findings.proofs.GroupTables.{front-cut}
 use Rattle.text.specs.Put.{Put}
 use Rattle.findings.specs.Scene.{Scene}
-use Rattle.text.specs.Message.{Saying, saying, sayingText, setSaid, prioritySaid, pairSaid, claimSaid, formulaSaid, eventSaid, varSaid}
+use Rattle.text.specs.Message.{Saying, saying, sayingText, initSaid, setSaid, prioritySaid, pairSaid, errorEmitSaid, claimSaid, formulaSaid, eventSaid, varSaid}
 use Rattle.text.specs.Said.{sayingOf}
-use Rattle.text.specs.Says.{WithRows, WithOwn, WithClaims, WithFormulas, Warned, Named, Says, SaysWarning, PutsSaid, PutsFinding}
+use Rattle.text.specs.Says.{WithNames, WithRows, WithOwn, WithClaims, WithFormulas, Warned, Named, Says, SaysWarning, PutsSaid, PutsFinding}
 use Rattle.text.specs.declared.said.Said.{Said}
 use Rattle.text.proofs.SayLaws.{warned, with-rows}
 
@@ -28,6 +29,10 @@ put-length {o} {at} {bs} p = ap length (p .bytes) ∙ length-sets o at bs
 -- sites 15 and 24
 pub first-of-two : {site : ℕ} → site ≡ 15 → (site ≡ 15 → ⊥) → site ≡ 24
 first-of-two e n = absurd (n e)
+
+-- sites 8, 9, 12 and 13
+pub judged-site : {site : ℕ} {b : Bool} → (b ≡ true → (site ≡ 8 → ⊥) → (site ≡ 9 → ⊥) → (site ≡ 12 → ⊥) → site ≡ 13) → b ≡ true → (site ≡ 8 → ⊥) → (site ≡ 9 → ⊥) → (site ≡ 12 → ⊥) → site ≡ 13
+judged-site f = f
 
 -- what X says is the message of site k, and what is known of the module has what X asks for
 finding-of : (K H : Module → Type 0) (s : List ℕ) (site i j : ℕ) {o : List ℕ} {at r : ℕ} {o′ : List ℕ} (X : Module → Option Saying) (k : ℕ) → ((m : Module) → K m → H m) → ((m : Module) → saying k i j m ≡ X m) → PutsSaid (Says H s X) s k o at r o′ → site ≡ k → PutsFinding K site i j o at r o′
@@ -70,12 +75,13 @@ module _ (s places rows : List ℕ) (count i j : ℕ) where
     Known = Named s places rows count known table enums properties
 
     module _ (site : ℕ) {o : List ℕ} {at r : ℕ} {o′ : List ℕ} where
+      pub finding-5 : PutsSaid (Says (WithNames s places (take 829 table) enums) s (initSaid i)) s 5 o at r o′ → site ≡ 5 → PutsFinding Known site i j o at r o′
+      unfolding saying
+      finding-5 = finding-of Known (WithNames s places (take 829 table) enums) s site i j (initSaid i) 5 (λ m h. (h .scene, h .agree)) (λ m. refl)
+
       pub finding-11 : PutsSaid (Says Row s (setSaid i j)) s 11 o at r o′ → site ≡ 11 → PutsFinding Known site i j o at r o′
       unfolding saying
       finding-11 = finding-of Known Row s site i j (setSaid i j) 11 (λ m h. with-rows (warned h)) (λ m. refl)
-
-      pub finding-13 : PutsSaid (Says (WithOwn s places rows count (take 829 table) enums) s (saying 13 i j)) s 13 o at r o′ → site ≡ 13 → PutsFinding Known site i j o at r o′
-      finding-13 = finding-of Known (WithOwn s places rows count (take 829 table) enums) s site i j (saying 13 i j) 13 (λ m h. (with-rows (warned h), h .agree)) (λ m. refl)
 
       pub finding-14 : PutsSaid (Says Row s (prioritySaid i j)) s 14 o at r o′ → site ≡ 14 → PutsFinding Known site i j o at r o′
       unfolding saying
@@ -85,6 +91,10 @@ module _ (s places rows : List ℕ) (count i j : ℕ) where
       unfolding saying
       finding-15 = finding-two Known site 15 (λ m h. with-rows (warned h)) (λ m. refl)
 
+      pub finding-17 : PutsSaid (Says (WithNames s places (take 829 table) enums) s (errorEmitSaid i)) s 17 o at r o′ → site ≡ 17 → PutsFinding Known site i j o at r o′
+      unfolding saying
+      finding-17 = finding-of Known (WithNames s places (take 829 table) enums) s site i j (errorEmitSaid i) 17 (λ m h. (h .scene, h .agree)) (λ m. refl)
+
       pub finding-18 : PutsSaid (Says (WithClaims s places (take (known .claims - 0) properties)) s (claimSaid i)) s 18 o at r o′ → site ≡ 18 → PutsFinding Known site i j o at r o′
       unfolding saying
       finding-18 p = finding-of Known (WithClaims s places (take (known .claims) properties)) s site i j (claimSaid i) 18 (λ m h. (h .scene, h .claims-are)) (λ m. refl) (rw (sym (front-cut properties (known .claims))) p)
@@ -92,6 +102,9 @@ module _ (s places rows : List ℕ) (count i j : ℕ) where
       pub finding-19 : PutsSaid (Says (WithFormulas s places (take (known .claims - 0) properties) (take 829 table) enums) s (formulaSaid i)) s 19 o at r o′ → site ≡ 19 → PutsFinding Known site i j o at r o′
       unfolding saying
       finding-19 p = finding-of Known (WithFormulas s places (take (known .claims) properties) (take 829 table) enums) s site i j (formulaSaid i) 19 (λ m h. ((h .scene, h .agree), (h .scene, h .claims-are))) (λ m. refl) (rw (sym (front-cut properties (known .claims))) p)
+
+      pub finding-judged : PutsSaid (Says (WithOwn s places rows count (take 829 table) enums) s (saying site i j)) s site o at r o′ → PutsFinding Known site i j o at r o′
+      finding-judged p = finding-of Known (WithOwn s places rows count (take 829 table) enums) s site i j (saying site i j) site (λ m h. (with-rows (warned h), h .agree)) (λ m. refl) p refl
 
       pub finding-warning : PutsFinding (Warned s places rows count (known .found)) site i j o at r o′ → PutsFinding Known site i j o at r o′
       finding-warning p = record { of = λ m h. p .of m (warned h) }

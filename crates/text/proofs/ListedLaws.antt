@@ -15,7 +15,7 @@ use Rattle.findings.specs.Scene.{Scene, field}
 use Rattle.text.specs.Form.{text, format}
 use Rattle.text.specs.Shown.{decimal}
 use Rattle.text.specs.Put.{Put}
-use Rattle.text.specs.Pieces.{inModule, inTransition, PutWithin}
+use Rattle.text.specs.Pieces.{inModule, inTransition, PutWithin, RowForm, EntryForm}
 use Rattle.text.specs.CauseText.{blameText}
 use Rattle.text.specs.Message.{siteForm, sayingText, setSaid, claimSaid, eventSaid, varSaid}
 use Rattle.text.specs.Said.{shown, sayingOf}
@@ -37,33 +37,42 @@ around p q = p ++ (text "{}" ++ q)
 pub around-is : (p a q : List ℕ) (as′ : List (List ℕ)) → plain p ≡ true → plain q ≡ true → format (around p q) (a ∷ as′) ≡ p ++ a ++ q
 around-is p a q as′ g l = format-arg p q a as′ g ∙ ap (λ (x : List ℕ). p ++ (a ++ x)) (format-end q as′ l) ∙ sym (append-assoc p a q)
 
-in-module : (n f : List ℕ) (as′ : List (List ℕ)) → format (text "module '{}" ++ f) (n ∷ as′) ≡ inModule n ++ format f as′
+pub in-module : (n f : List ℕ) (as′ : List (List ℕ)) → format (text "module '{}" ++ f) (n ∷ as′) ≡ inModule n ++ format f as′
 unfolding plain inModule
 in-module n f as′ = format-arg (text "module '") f n as′ refl ∙ sym (append-assoc (text "module '") n (format f as′))
 
 joined : (h p a f : List ℕ) → h ++ (p ++ (a ++ f)) ≡ h ++ p ++ a ++ f
 joined h p a f = simp append-assoc
 
-pub in-transition : (n i f : List ℕ) (as′ : List (List ℕ)) → format (text "module '{}' transition #{}" ++ f) (n ∷ i ∷ as′) ≡ inTransition n i ++ format f as′
+in-transition : (n i f : List ℕ) (as′ : List (List ℕ)) → format (text "module '{}' transition #{}" ++ f) (n ∷ i ∷ as′) ≡ inTransition n i ++ format f as′
 unfolding plain inTransition
 in-transition n i f as′ =
     in-module n (text "' transition #{}" ++ f) (i ∷ as′)
     ∙ ap (λ (x : List ℕ). inModule n ++ x) (format-arg (text "' transition #") f i as′ refl)
     ∙ joined (inModule n) (text "' transition #") i (format f as′)
 
+-- a form that tells a transition, and one that tells a module and an entry's name
+pub row-form : (k : ℕ) (q : List ℕ) → siteForm k ≡ text "module '{}' transition #{}" ++ q → plain q ≡ true → RowForm k q
+unfolding RowForm
+row-form k q u g n i =
+    ap (λ (f : List ℕ). format f (n ∷ i ∷ [] ∷ [] ∷ [] ∷ [])) u
+    ∙ in-transition n i q ([] ∷ [] ∷ [] ∷ [])
+    ∙ ap (λ (x : List ℕ). inTransition n i ++ x) (format-end q ([] ∷ [] ∷ [] ∷ []) g)
+
+pub entry-form : (k : ℕ) (p q : List ℕ) → siteForm k ≡ text "module '{}" ++ around p q → plain p ≡ true → plain q ≡ true → EntryForm k p q
+unfolding EntryForm
+entry-form k p q u g l n t =
+    ap (λ (f : List ℕ). format f (n ∷ t ∷ [] ∷ [] ∷ [] ∷ [])) u
+    ∙ in-module n (around p q) (t ∷ [] ∷ [] ∷ [] ∷ [])
+    ∙ ap (λ (x : List ℕ). inModule n ++ x) (around-is p t q ([] ∷ [] ∷ [] ∷ []) g l)
+
 -- an entry's message is put in two pieces
 module _ (s : List ℕ) (k n t : ℕ) {o o₁ o₂ p q : List ℕ} {at r₁ r₂ : ℕ} (b : PutWithin o₁ r₁ p (textAt s t) q r₂ o₂) where
   pub entry-formed : Put o at (inModule (textAt s n)) r₁ o₁
-      → siteForm k ≡ text "module '{}" ++ around p q
-      → plain p ≡ true
-      → plain q ≡ true
+      → EntryForm k p q
       → Put o at (format (siteForm k) (textAt s n ∷ textAt s t ∷ [] ∷ [] ∷ [] ∷ [])) r₂ o₂
-  entry-formed a u g l =
-      put-is (
-      ap (λ (f : List ℕ). format f (textAt s n ∷ textAt s t ∷ [] ∷ [] ∷ [] ∷ [])) u
-      ∙ in-module (textAt s n) (around p q) (textAt s t ∷ [] ∷ [] ∷ [] ∷ [])
-      ∙ ap (λ (x : List ℕ). inModule (textAt s n) ++ x) (around-is p (textAt s t) q ([] ∷ [] ∷ [] ∷ []) g l))
-      (a then b .put)
+  unfolding EntryForm
+  entry-formed a f = put-is (f (textAt s n) (textAt s t)) (a then b .put)
 
   pub entry-told : Put o at (inModule (textAt s n)) r₁ o₁
       → siteForm k ≡ text "module '{}" ++ around p q
@@ -71,7 +80,19 @@ module _ (s : List ℕ) (k n t : ℕ) {o o₁ o₂ p q : List ℕ} {at r₁ r₂
       → plain q ≡ true
       → Put o at (sayingText k (sayingOf s (Line (Name n) (Name t) Blank Blank Blank blame.Nothing))) r₂ o₂
   unfolding sayingText sayingOf shown blameOf blameText
-  entry-told a u g l = put-is (append-nil _) (entry-formed a u g l)
+  entry-told a u g l = put-is (append-nil _) (entry-formed a (entry-form k p q u g l))
+
+  pub set-formed : (i : ℕ) → Put o at (inTransition (textAt s n) (decimal i)) r₁ o₁
+      → siteForm k ≡ text "module '{}' transition #{}" ++ around p q
+      → plain p ≡ true
+      → plain q ≡ true
+      → Put o at (format (siteForm k) (textAt s n ∷ decimal i ∷ textAt s t ∷ [] ∷ [] ∷ [])) r₂ o₂
+  set-formed i a u g l =
+      put-is (
+      ap (λ (f : List ℕ). format f (textAt s n ∷ decimal i ∷ textAt s t ∷ [] ∷ [] ∷ [])) u
+      ∙ in-transition (textAt s n) (decimal i) (around p q) (textAt s t ∷ [] ∷ [] ∷ [])
+      ∙ ap (λ (x : List ℕ). inTransition (textAt s n) (decimal i) ++ x) (around-is p (textAt s t) q ([] ∷ [] ∷ []) g l))
+      (a then b .put)
 
   pub set-told : (i : ℕ) → Put o at (inTransition (textAt s n) (decimal i)) r₁ o₁
       → siteForm k ≡ text "module '{}' transition #{}" ++ around p q
@@ -79,13 +100,7 @@ module _ (s : List ℕ) (k n t : ℕ) {o o₁ o₂ p q : List ℕ} {at r₁ r₂
       → plain q ≡ true
       → Put o at (sayingText k (sayingOf s (Line (Name n) (Number i) (Name t) Blank Blank blame.Nothing))) r₂ o₂
   unfolding sayingText sayingOf shown blameOf blameText
-  set-told i a u g l =
-      put-is (
-      append-nil _
-      ∙ ap (λ (f : List ℕ). format f (textAt s n ∷ decimal i ∷ textAt s t ∷ [] ∷ [] ∷ [])) u
-      ∙ in-transition (textAt s n) (decimal i) (around p q) (textAt s t ∷ [] ∷ [] ∷ [])
-      ∙ ap (λ (x : List ℕ). inTransition (textAt s n) (decimal i) ++ x) (around-is p (textAt s t) q ([] ∷ [] ∷ []) g l))
-      (a then b .put)
+  set-told i a u g l = put-is (append-nil _) (set-formed i a u g l)
 
 -- what is said of an entry by the tables of its module
 module _ (s places o o′ : List ℕ) (at r a b : ℕ) where

@@ -1,8 +1,10 @@
 -- What the messages of two transitions have in common, and those of a list's entries.
-use mathlib.Core.List.{List, _++_}
+use mathlib.Core.Path.{_≡_}
+use mathlib.Core.List.{List, [], _∷_, _++_}
 use Prim.Native.Nat.{ℕ}
 use Rattle.reading.specs.Text.{Name}
-use Rattle.text.specs.Form.{text}
+use Rattle.text.specs.Form.{text, format}
+use Rattle.text.specs.Message.{siteForm}
 use Rattle.text.specs.Put.{Put}
 
 -- in which module and state they are
@@ -27,3 +29,10 @@ inTransition n i = inModule n ++ text "' transition #" ++ i
 -- an entry's name is put with bytes before and behind it
 pub record PutWithin (o : List ℕ) (at : ℕ) (p : List ℕ) (n : Name) (q : List ℕ) (r : ℕ) (o′ : List ℕ) : Type 0 where
   pub put : Put o at (p ++ n ++ q) r o′
+
+-- what is said at a site before what is wrong: in which transition, then q; or in which module, then an entry's name with p before it and q behind it
+unfoldable pub RowForm : ℕ → List ℕ → Type 0
+RowForm site q = (n i : List ℕ) → format (siteForm site) (n ∷ i ∷ [] ∷ [] ∷ [] ∷ []) ≡ inTransition n i ++ q
+
+unfoldable pub EntryForm : ℕ → List ℕ → List ℕ → Type 0
+EntryForm site p q = (n t : List ℕ) → format (siteForm site) (n ∷ t ∷ [] ∷ [] ∷ [] ∷ []) ≡ inModule n ++ (p ++ t ++ q)

@@ -2,8 +2,7 @@
 use crate::aft::variants_of;
 use crate::entry::Near;
 use crate::entry::look_up;
-use crate::judged::put_emit_at;
-use crate::judged::put_formula_at;
+use crate::judged::put_judged_at;
 use crate::listed::put_claim_at;
 use crate::listed::put_event_at;
 use crate::listed::put_set_at;
@@ -12,6 +11,9 @@ use crate::pieces::put_pair_at;
 use crate::pieces::put_priority_at;
 use crate::say::say_warning;
 use crate::site::put_said;
+use crate::typed::put_error_emit_at;
+use crate::typed::put_formula_at;
+use crate::typed::put_init_at;
 use crate::words::say_named;
 use findings::Ready;
 use findings::field;
@@ -20,6 +22,7 @@ use typing::after;
 use typing::after_head;
 use typing::word;
 ghost use mathlib.Core.Path.{_≡_};
+ghost use mathlib.Core.Bool.{true};
 ghost use Prim.Native.Nat.{_+_, _≤_};
 ghost use lib.ListN.{length, take};
 ghost use Rattle.reading.specs.Limits.{maxList};
@@ -59,6 +62,17 @@ pub fn put_warning<'a>(
     }
     let x = say_warning(doc, places, rows, count, found, site, i, j, near);
     put_said(out, at, doc, site, x)
+}
+
+// Whether a site is of what was judged in a transition, and put piece by piece.
+fn is_judged(site: u32) -> bool
+    ensures { λ r. ⌜ (r ≡ true → (site ≡ 8 → ⊥) → (site ≡ 9 → ⊥) → (site ≡ 12 → ⊥) → site ≡ 13) ⌝ }
+{
+    match site {
+        8..=9 => true,
+        12..=13 => true,
+        _ => false,
+    }
 }
 
 // Puts the message from a place on; the place after it. Bytes that don't fit are left out.
@@ -102,13 +116,34 @@ pub fn put_finding<'a>(
         let b = known.claims;
         return put_claim_at(doc, places, &claims[0..b], i, out, at);
     }
-    if site == 13 {
-        return put_emit_at(doc, places, rows, count, table, enums, i, j, near, out, at);
-    }
     if site == 19 {
         let b = known.claims;
         let names = &table[0..829];
         return put_formula_at(doc, places, &claims[0..b], names, enums, i, out, at);
+    }
+    if site == 5 {
+        let names = &table[0..829];
+        return put_init_at(doc, places, names, enums, i, near, out, at);
+    }
+    if site == 17 {
+        let names = &table[0..829];
+        return put_error_emit_at(doc, places, names, enums, i, near, out, at);
+    }
+    if is_judged(site) {
+        return put_judged_at(
+            doc,
+            places,
+            rows,
+            count,
+            table,
+            enums,
+            site,
+            i,
+            j,
+            near,
+            out,
+            at,
+        );
     }
     if 20 < site {
         let found = known.found;

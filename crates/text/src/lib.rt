@@ -22,6 +22,7 @@ mod shown;
 mod site;
 mod told;
 mod transition;
+mod typed;
 mod words;
 
 pub use entry::Near;

@@ -1,6 +1,6 @@
 -- What is said is what is put.
 use borrow.Author.Needs.{needs}
-use Rattle.text.proofs.FindingLaws.{finding-put, put-length, first-of-two, finding-11, finding-13, finding-14, finding-15, finding-18, finding-19, finding-warning, said-length}
+use Rattle.text.proofs.FindingLaws.{finding-put, put-length, first-of-two, judged-site, finding-5, finding-11, finding-14, finding-15, finding-17, finding-18, finding-19, finding-judged, finding-warning, said-length}
 use Rattle.text.proofs.finding.put_finding.Statement.{statement}
 use Rattle.text.proofs.finding.put_finding.Tie as tie
 
@@ -23,10 +23,6 @@ put-finding-spec =
     (λ c κs. search needs)
     (λ c. search needs)
     (λ c. (search finding-18, (search needs, (search needs, (search said-length, search needs)))))
-    (λ c κs. (search needs, (search needs, search needs)))
-    (λ c. search needs)
-    (λ c. search needs)
-    (λ c. (search finding-13, (search needs, (search needs, (search said-length, search needs)))))
     (λ c. search needs)
     (λ c. search needs)
     (λ c. search needs)
@@ -37,6 +33,25 @@ put-finding-spec =
     (λ c. search needs)
     (λ c. search needs)
     (λ c. (search finding-19, (search needs, (search needs, (search said-length, search needs)))))
+    (λ c. search needs)
+    (λ c. search needs)
+    (λ c. search needs)
+    (λ c κs. search needs)
+    (λ c. search needs)
+    (λ c. search needs)
+    (λ c. (search finding-5, (search needs, (search needs, (search said-length, search needs)))))
+    (λ c. search needs)
+    (λ c. search needs)
+    (λ c. search needs)
+    (λ c κs. search needs)
+    (λ c. search needs)
+    (λ c. search needs)
+    (λ c. (search finding-17, (search needs, (search needs, (search said-length, search needs)))))
+    (λ c κs. search needs)
+    (λ c κs. (search needs, (search needs, (search needs, search judged-site))))
+    (λ c. search needs)
+    (λ c. search needs)
+    (λ c. (search finding-judged, (search needs, (search needs, (search said-length, search needs)))))
     (λ c κs. (search needs, (search needs, (search needs, search needs))))
     (λ c. search needs)
     (λ c. (search finding-warning, (search needs, (search needs, (search needs, search needs)))))

@@ -3,24 +3,23 @@ use mathlib.Core.Path.{refl}
 use borrow.Author.Needs.{needs}
 use Rattle.text.specs.Message.{siteForm}
 use Rattle.text.proofs.PieceLaws.{plain}
-use Rattle.text.proofs.BlamedLaws.{entry-blamed}
-use Rattle.text.proofs.judged.put_formula.Statement.{statement}
-use Rattle.text.proofs.judged.put_formula.Tie as tie
+use Rattle.text.proofs.BlamedLaws.{module-blamed}
+use Rattle.text.proofs.typed.put_on_error.Statement.{statement}
+use Rattle.text.proofs.typed.put_on_error.Tie as tie
 
 returns : tie.Need-returns
 unfolding siteForm plain
 returns c =
     let c3 = c .before .before in
     let c2 = c3 .before .before .before .before in
-    let c1 = c2 .before .before .before .before .before .before in
-    (entry-blamed _ 19 _ _ _ (c2 .put-name .ensures .0) (c1 .put-module .ensures .0) (c3 .put-blame .ensures .0) refl refl refl, search needs)
+    let c1 = c2 .before .before .before .before .before in
+    (module-blamed _ 17 _ _ _ (c1 .put-module .ensures .0) (c2 .put-bytes .ensures) (c3 .put-blame .ensures .0) refl refl, search needs)
 
-pub put-formula-spec : {M : Type 1} → statement M
-put-formula-spec =
+pub put-on-error-spec : {M : Type 1} → statement M
+put-on-error-spec =
     tie.close
     (tie.spec
     (λ c κs. search needs)
-    (λ c. search needs)
     (λ c. search needs)
     (λ c κs. search needs)
     (λ c κs. search needs)
