@@ -1,5 +1,7 @@
 // The line of one finding, by its words.
 use findings::Ready;
+use text::Bound;
+use text::Done;
 use text::Near;
 use text::look_up_finding;
 use text::put_bytes;
@@ -10,6 +12,7 @@ ghost use Prim.Native.Nat.{_+_, _≤_};
 ghost use lib.ListN.{length, getD};
 ghost use Rattle.reading.specs.Limits.{maxList};
 ghost use Rattle.text.specs.Near.{Kept};
+ghost use Rattle.text.specs.Bound.{BoundTo};
 
 // A word; 0 past the end.
 pub(crate) fn word_at(words: &[u32], k: usize) -> u32
@@ -55,21 +58,25 @@ fn put_words<'a>(
     page: &mut [u8],
     at: usize,
     near: Near,
-) -> usize
+    bound: Bound,
+) -> Done
     requires { ⌜ Kept maxList (now doc) near ⌝ }
+    requires { ⌜ BoundTo (now doc) (now places) (now rows) (now table) bound ⌝ }
     requires { ⌜ length (now doc) ≤ 0xffff ⌝ }
     requires { ⌜ i ≤ 0xffff ⌝ }
     requires { ⌜ 1658 ≤ length (now table) ⌝ }
     requires { ⌜ known .claims ≤ length (now claims) ⌝ }
     requires { ⌜ at ≤ 0x1_0000 ⌝ }
-    ensures { λ r. ⌜ r ≤ at + 0x7b_0000 ⌝ }
+    ensures { λ r. ⌜ BoundTo (now (doc .entry)) (now (places .entry)) (now (rows .entry)) (now (table .exit)) (r .bound) ⌝ }
+    ensures { λ _. ⌜ length (now (table .exit)) ≡ length (now (table .entry)) ⌝ }
+    ensures { λ r. ⌜ r .end ≤ at + 0x7b_0000 ⌝ }
 {
     let site = word_at(words, 5 * i + 1);
     let first = word_at(words, 5 * i + 2);
     let second = word_at(words, 5 * i + 3);
     if 20 < site {
         let found = known.found;
-        return put_warning(
+        let end = put_warning(
             doc,
             places,
             rows,
@@ -82,6 +89,7 @@ fn put_words<'a>(
             at,
             near,
         );
+        return Done { end, bound };
     }
     put_finding(
         doc,
@@ -98,6 +106,7 @@ fn put_words<'a>(
         page,
         at,
         near,
+        bound,
     )
 }
 
@@ -117,17 +126,21 @@ pub(crate) fn put_line<'a>(
     page: &mut [u8],
     at: usize,
     near: Near,
-) -> usize
+    bound: Bound,
+) -> Done
     requires { ⌜ Kept maxList (now doc) near ⌝ }
+    requires { ⌜ BoundTo (now doc) (now places) (now rows) (now table) bound ⌝ }
     requires { ⌜ length (now doc) ≤ 0xffff ⌝ }
     requires { ⌜ i ≤ 0xffff ⌝ }
     requires { ⌜ 1658 ≤ length (now table) ⌝ }
     requires { ⌜ known .claims ≤ length (now claims) ⌝ }
     requires { ⌜ at ≤ 0xc000 ⌝ }
-    ensures { λ r. ⌜ r ≤ at + 0x80_0000 ⌝ }
+    ensures { λ r. ⌜ BoundTo (now (doc .entry)) (now (places .entry)) (now (rows .entry)) (now (table .exit)) (r .bound) ⌝ }
+    ensures { λ _. ⌜ length (now (table .exit)) ≡ length (now (table .entry)) ⌝ }
+    ensures { λ r. ⌜ r .end ≤ at + 0x80_0000 ⌝ }
 {
     let k = start_line(page, at, warning);
-    let end = put_words(
+    let done = put_words(
         doc,
         words,
         i,
@@ -141,8 +154,12 @@ pub(crate) fn put_line<'a>(
         page,
         k,
         near,
+        bound,
     );
-    end_line(page, end)
+    Done {
+        end: end_line(page, done.end),
+        bound: done.bound,
+    }
 }
 
 // Looks up the entry that finding number i is about.

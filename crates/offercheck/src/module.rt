@@ -8,6 +8,7 @@ use findings::Ready;
 use findings::name_module;
 use findings::open_module;
 use findings::states_of;
+use text::Bound;
 use text::Near;
 use text::module_after;
 use text::module_at;
@@ -58,6 +59,7 @@ fn print_run<'a>(
     let owner = word_at(words, 5 * from.next);
     let beyond = from.near;
     let mut near = Near::Nothing;
+    let mut bound = Bound::Nothing;
     let mut i = from.next;
     let mut at = from.at;
     while i < all {
@@ -69,7 +71,7 @@ fn print_run<'a>(
             };
         }
         near = look_up_words(doc, words, i, places, rows, known, near);
-        let end = put_line(
+        let done = put_line(
             doc,
             words,
             i,
@@ -84,8 +86,10 @@ fn print_run<'a>(
             page,
             at,
             near,
+            bound,
         );
-        at = print_full(page, end);
+        bound = done.bound;
+        at = print_full(page, done.end);
         i += 1;
     }
     Reached {

@@ -30,6 +30,7 @@ use Rattle.text.specs.CauseText.{aloneBlame, blameText}
 use Rattle.text.specs.Message.{siteForm, saying, sayingText, initSaid, errorEmitSaid, formulaSaid}
 use Rattle.text.specs.Said.{shown, sayingOf}
 use Rattle.text.specs.Says.{Picked, Untyped, WithNames, WithOwn, WithFormulas, Says, SaysGuard, SaysValue, SaysEmit, SaysInside, SaysJudged, PutsSaid}
+use Rattle.text.specs.Bound.{SeesNames}
 use Rattle.text.specs.declared.said.Arg.the-variants.{Blank, Name, Number}
 use Rattle.text.specs.declared.said.Said.{Said}
 use Rattle.text.specs.declared.said.Said.the-variants.{Nothing, Line}
@@ -42,7 +43,7 @@ use Rattle.text.proofs.ForeLaws.{init-said}
 use Rattle.text.proofs.GuardLaws.{guard-said}
 use Rattle.text.proofs.SetLaws.{value-said, emit-said}
 use Rattle.text.proofs.TransitionLaws.{pattern-said}
-use Rattle.text.proofs.JudgedLaws.{inside-guard, inside-value, inside-emit, judged-pattern, judged-inside}
+use Rattle.text.proofs.JudgedLaws.{inside-guard, inside-value, inside-emit, judged-pattern, judged-seen}
 use Rattle.text.proofs.SayLaws.{own-past, own-judged}
 
 -- a message that ends with what is wrong: of a module, of an entry, of a transition, and of an assignment of one
@@ -143,16 +144,21 @@ module _ (s places rows : List ℕ) (i : ℕ) (enums : List ℕ) {o o′ : List 
       puts-emit f a b = let e = f a b in puts-at 13 e λ x. inside-emit s places rows i names enums site j a (λ q. omega arith) b
 
   -- of a pattern, and by the names with those that it binds
-  module _ (site j : ℕ) (table : List ℕ) {p : Judged} {table′ : List ℕ} (g : JudgesOwn s places rows i table p table′) where
-    pub pattern-put : {a : ℕ} → site ≡ 8 → a ≡ getD places 0 0
-        → Put o at (sayingText 8 (sayingOf s (Line (Name a) (Number i) Blank Blank Blank (p .blame)))) r o′
-        → PutsSaid (SaysJudged s places rows i (take 829 table) enums site j) s site o at r o′
-    pattern-put e h x = puts-at 8 e (λ y. judged-pattern s places rows i table enums site j g e) (record { said = _; says = pattern-said s places i h refl; put = x })
+  pub pattern-put : (table : List ℕ) {p : Judged} {table′ : List ℕ} → JudgesOwn s places rows i table p table′ → (j : ℕ) {a : ℕ} → a ≡ getD places 0 0
+      → Put o at (sayingText 8 (sayingOf s (Line (Name a) (Number i) Blank Blank Blank (p .blame)))) r o′
+      → PutsSaid (SaysJudged s places rows i (take 829 table) enums 8 j) s 8 o at r o′
+  pattern-put table g j h x = record { said = _; says = judged-pattern s places rows i table enums 8 j g refl (pattern-said s places i h refl); put = x }
 
-    pub puts-bound : (site ≡ 8 → ⊥)
-        → PutsSaid (SaysInside s places rows i (take (p .names - 0) table′) enums site j) s site o at r o′
-        → PutsSaid (SaysJudged s places rows i (take 829 table) enums site j) s site o at r o′
-    puts-bound n = puts-at site refl λ x. judged-inside s places rows i table enums site j g n
+  module _ (vars : List ℕ) (site j : ℕ) where
+    pub pattern-at : site ≡ 8
+        → ((enums : List ℕ) (j : ℕ) → PutsSaid (SaysJudged s places rows i vars enums 8 j) s 8 o at r o′)
+        → PutsSaid (SaysJudged s places rows i vars enums site j) s site o at r o′
+    pattern-at e p = rw e (p enums j)
+
+    pub puts-seen : {table : List ℕ} {n : ℕ} → SeesNames s places rows i vars table n → (site ≡ 8 → ⊥)
+        → PutsSaid (SaysInside s places rows i (take (n - 0) table) enums site j) s site o at r o′
+        → PutsSaid (SaysJudged s places rows i vars enums site j) s site o at r o′
+    puts-seen g n = puts-at site refl λ x. judged-seen s places rows i vars enums site j g n
 
 -- of a transition that is there, what its row says
 module _ (s places rows : List ℕ) (count : ℕ) (vars enums : List ℕ) (site i j : ℕ) (f : (site ≡ 8 → ⊥) → (site ≡ 9 → ⊥) → (site ≡ 12 → ⊥) → site ≡ 13) where

@@ -1,5 +1,7 @@
 -- A message that is put is what the definition says, and the lent bytes keep their length.
 use Prim.Native.Nat.{ℕ, _-_, _≤_}
+use native.Mathlib.Omega.{arith}
+use native.Mathlib.Decide.{ℕ-discrete}
 use mathlib.Core.Path.{_≡_, refl, sym, ap, subst, _∙_}
 use mathlib.Core.Bool.{Bool, true}
 use mathlib.Core.List.{List}
@@ -15,6 +17,7 @@ use Rattle.findings.specs.Scene.{Scene}
 use Rattle.text.specs.Message.{Saying, saying, sayingText, initSaid, setSaid, prioritySaid, pairSaid, errorEmitSaid, claimSaid, formulaSaid, eventSaid, varSaid}
 use Rattle.text.specs.Said.{sayingOf}
 use Rattle.text.specs.Says.{WithNames, WithRows, WithOwn, WithClaims, WithFormulas, Warned, Named, Says, SaysWarning, PutsSaid, PutsFinding}
+use Rattle.text.specs.Bound.{Straight}
 use Rattle.text.specs.declared.said.Said.{Said}
 use Rattle.text.proofs.SayLaws.{warned, with-rows}
 
@@ -33,6 +36,39 @@ first-of-two e n = absurd (n e)
 -- sites 8, 9, 12 and 13
 pub judged-site : {site : ℕ} {b : Bool} → (b ≡ true → (site ≡ 8 → ⊥) → (site ≡ 9 → ⊥) → (site ≡ 12 → ⊥) → site ≡ 13) → b ≡ true → (site ≡ 8 → ⊥) → (site ≡ 9 → ⊥) → (site ≡ 12 → ⊥) → site ≡ 13
 judged-site f = f
+
+-- sites that need no pattern to be judged
+pub straight-site : {site : ℕ} {b : Bool} → (b ≡ true → Straight site) → b ≡ true → Straight site
+straight-site f = f
+
+module _ {site : ℕ} where
+  pub at-5 : site ≡ 5 → Straight site
+  at-5 q a = absurd (a q)
+
+  pub at-11 : site ≡ 11 → Straight site
+  at-11 q a b = absurd (b q)
+
+  second : 14 ≤ site → site ≤ 15 → (site ≡ 14 → ⊥) → site ≡ 15
+  second l m n = omega arith
+
+  pub at-14 : 14 ≤ site → site ≤ 15 → Straight site
+  at-14 l m a b c d = absurd (d (second l m c))
+
+  third : 17 ≤ site → site ≤ 19 → (site ≡ 17 → ⊥) → (site ≡ 18 → ⊥) → site ≡ 19
+  third l m n o = omega arith
+
+  pub at-17 : 17 ≤ site → site ≤ 19 → Straight site
+  at-17 l m a b c d e f g = absurd (g (third l m e f))
+
+  pub at-21 : 21 ≤ site → Straight site
+  at-21 l a b c d e f g = l
+
+straight-last : {site : ℕ} → Straight site → site ≤ 20 → (site ≡ 11 → ⊥) → (site ≡ 14 → ⊥) → (site ≡ 15 → ⊥) → (site ≡ 5 → ⊥) → (site ≡ 17 → ⊥) → (site ≡ 18 → ⊥) → site ≡ 19
+straight-last {site} f l b c d a e g = at (ℕ-discrete site 19)
+  where
+    at : Dec (site ≡ 19) → site ≡ 19
+    at (yes q) = q
+    at (no n) = let z = f a b c d e g n in absurd (omega arith)
 
 -- what X says is the message of site k, and what is known of the module has what X asks for
 finding-of : (K H : Module → Type 0) (s : List ℕ) (site i j : ℕ) {o : List ℕ} {at r : ℕ} {o′ : List ℕ} (X : Module → Option Saying) (k : ℕ) → ((m : Module) → K m → H m) → ((m : Module) → saying k i j m ≡ X m) → PutsSaid (Says H s X) s k o at r o′ → site ≡ k → PutsFinding K site i j o at r o′
@@ -99,9 +135,12 @@ module _ (s places rows : List ℕ) (count i j : ℕ) where
       unfolding saying
       finding-18 p = finding-of Known (WithClaims s places (take (known .claims) properties)) s site i j (claimSaid i) 18 (λ m h. (h .scene, h .claims-are)) (λ m. refl) (rw (sym (front-cut properties (known .claims))) p)
 
-      pub finding-19 : PutsSaid (Says (WithFormulas s places (take (known .claims - 0) properties) (take 829 table) enums) s (formulaSaid i)) s 19 o at r o′ → site ≡ 19 → PutsFinding Known site i j o at r o′
+      finding-19 : PutsSaid (Says (WithFormulas s places (take (known .claims - 0) properties) (take 829 table) enums) s (formulaSaid i)) s 19 o at r o′ → site ≡ 19 → PutsFinding Known site i j o at r o′
       unfolding saying
       finding-19 p = finding-of Known (WithFormulas s places (take (known .claims) properties) (take 829 table) enums) s site i j (formulaSaid i) 19 (λ m h. ((h .scene, h .agree), (h .scene, h .claims-are))) (λ m. refl) (rw (sym (front-cut properties (known .claims))) p)
+
+      pub finding-last : PutsSaid (Says (WithFormulas s places (take (known .claims - 0) properties) (take 829 table) enums) s (formulaSaid i)) s 19 o at r o′ → Straight site → site ≤ 20 → (site ≡ 11 → ⊥) → (site ≡ 14 → ⊥) → (site ≡ 15 → ⊥) → (site ≡ 5 → ⊥) → (site ≡ 17 → ⊥) → (site ≡ 18 → ⊥) → PutsFinding Known site i j o at r o′
+      finding-last p f l b c d a e g = finding-19 p (straight-last f l b c d a e g)
 
       pub finding-judged : PutsSaid (Says (WithOwn s places rows count (take 829 table) enums) s (saying site i j)) s site o at r o′ → PutsFinding Known site i j o at r o′
       finding-judged p = finding-of Known (WithOwn s places rows count (take 829 table) enums) s site i j (saying site i j) site (λ m h. (with-rows (warned h), h .agree)) (λ m. refl) p refl

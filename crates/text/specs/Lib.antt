@@ -10,4 +10,5 @@ pub mod Message
 pub mod Said
 pub mod Says
 pub mod Near
+pub mod Bound
 pub mod Told

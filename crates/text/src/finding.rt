@@ -2,6 +2,8 @@
 use crate::aft::variants_of;
 use crate::entry::Near;
 use crate::entry::look_up;
+use crate::judged::Bound;
+use crate::judged::Done;
 use crate::judged::put_judged_at;
 use crate::listed::put_claim_at;
 use crate::listed::put_event_at;
@@ -27,6 +29,7 @@ ghost use Prim.Native.Nat.{_+_, _≤_};
 ghost use lib.ListN.{length, take};
 ghost use Rattle.reading.specs.Limits.{maxList};
 ghost use Rattle.text.specs.Near.{Kept};
+ghost use Rattle.text.specs.Bound.{BoundTo, Straight};
 ghost use Rattle.text.specs.Says.{Named, Warned, PutsFinding};
 
 // Puts the message of a warning from a place on; the place after it. It needs no table of names.
@@ -75,7 +78,76 @@ fn is_judged(site: u32) -> bool
     }
 }
 
-// Puts the message from a place on; the place after it. Bytes that don't fit are left out.
+// Whether a site's message needs no pattern to be judged, and is put piece by piece.
+fn is_straight(site: u32) -> bool
+    ensures { λ r. ⌜ (r ≡ true → Straight site) ⌝ }
+{
+    match site {
+        5 => true,
+        11 => true,
+        14..=15 => true,
+        17..=19 => true,
+        21..=u32::MAX => true,
+        _ => false,
+    }
+}
+
+// Puts such a message from a place on; the place after it.
+fn put_straight<'a>(
+    doc: &'a [u8],
+    places: &'a [usize],
+    rows: &'a [usize],
+    count: u8,
+    known: Ready,
+    table: &'a [usize],
+    enums: &'a [usize],
+    claims: &'a [usize],
+    site: u32,
+    i: usize,
+    j: usize,
+    out: &mut [u8],
+    at: usize,
+    near: Near,
+) -> usize
+    requires { ⌜ Straight site ⌝ }
+    requires { ⌜ Kept maxList (now doc) near ⌝ }
+    requires { ⌜ length (now doc) ≤ 0xffff ⌝ }
+    requires { ⌜ 1658 ≤ length (now table) ⌝ }
+    requires { ⌜ known .claims ≤ length (now claims) ⌝ }
+    requires { ⌜ at ≤ 0x1_0000 ⌝ }
+    ensures { λ r. ⌜ PutsFinding (Named (now (doc .entry)) (now (places .entry)) (now (rows .entry)) count known (now (table .entry)) (now (enums .entry)) (now (claims .entry))) site i j (now (out .entry)) at r (now (out .exit)) ⌝ }
+    ensures { λ _. ⌜ length (now (out .exit)) ≡ length (now (out .entry)) ⌝ }
+    ensures { λ r. ⌜ r ≤ at + 0x7b_0000 ⌝ }
+{
+    if 20 < site {
+        let found = known.found;
+        return put_warning(doc, places, rows, count, found, site, i, j, out, at, near);
+    }
+    if site == 11 {
+        return put_set_at(doc, places, rows, count, i, j, near, out, at);
+    }
+    if site == 14 {
+        return put_priority_at(doc, places, rows, count, i, j, out, at);
+    }
+    if site == 15 {
+        return put_pair_at(doc, places, rows, count, site, i, j, out, at);
+    }
+    let names = &table[0..829];
+    if site == 5 {
+        return put_init_at(doc, places, names, enums, i, near, out, at);
+    }
+    if site == 17 {
+        return put_error_emit_at(doc, places, names, enums, i, near, out, at);
+    }
+    let b = known.claims;
+    let listed = &claims[0..b];
+    if site == 18 {
+        return put_claim_at(doc, places, listed, i, out, at);
+    }
+    put_formula_at(doc, places, listed, names, enums, i, out, at)
+}
+
+// Puts the message from a place on. Bytes that don't fit are left out.
 pub fn put_finding<'a>(
     doc: &'a [u8],
     places: &'a [usize],
@@ -91,44 +163,21 @@ pub fn put_finding<'a>(
     out: &mut [u8],
     at: usize,
     near: Near,
-) -> usize
+    bound: Bound,
+) -> Done
     requires { ⌜ Kept maxList (now doc) near ⌝ }
+    requires { ⌜ BoundTo (now doc) (now places) (now rows) (now table) bound ⌝ }
     requires { ⌜ length (now doc) ≤ 0xffff ⌝ }
     requires { ⌜ 1658 ≤ length (now table) ⌝ }
     requires { ⌜ known .claims ≤ length (now claims) ⌝ }
     requires { ⌜ at ≤ 0x1_0000 ⌝ }
-    ensures { λ r. ⌜ PutsFinding (Named (now (doc .entry)) (now (places .entry)) (now (rows .entry)) count known (now (table .entry)) (now (enums .entry)) (now (claims .entry))) site i j (now (out .entry)) at r (now (out .exit)) ⌝ }
+    ensures { λ r. ⌜ PutsFinding (Named (now (doc .entry)) (now (places .entry)) (now (rows .entry)) count known (now (table .entry)) (now (enums .entry)) (now (claims .entry))) site i j (now (out .entry)) at (r .end) (now (out .exit)) ⌝ }
+    ensures { λ r. ⌜ BoundTo (now (doc .entry)) (now (places .entry)) (now (rows .entry)) (now (table .exit)) (r .bound) ⌝ }
     ensures { λ _. ⌜ length (now (table .exit)) ≡ length (now (table .entry)) ⌝ }
     ensures { λ _. ⌜ take 829 (now (table .exit)) ≡ take 829 (now (table .entry)) ⌝ }
     ensures { λ _. ⌜ length (now (out .exit)) ≡ length (now (out .entry)) ⌝ }
-    ensures { λ r. ⌜ r ≤ at + 0x7b_0000 ⌝ }
+    ensures { λ r. ⌜ r .end ≤ at + 0x7b_0000 ⌝ }
 {
-    if site == 14 {
-        return put_priority_at(doc, places, rows, count, i, j, out, at);
-    }
-    if site == 15 {
-        return put_pair_at(doc, places, rows, count, site, i, j, out, at);
-    }
-    if site == 11 {
-        return put_set_at(doc, places, rows, count, i, j, near, out, at);
-    }
-    if site == 18 {
-        let b = known.claims;
-        return put_claim_at(doc, places, &claims[0..b], i, out, at);
-    }
-    if site == 19 {
-        let b = known.claims;
-        let names = &table[0..829];
-        return put_formula_at(doc, places, &claims[0..b], names, enums, i, out, at);
-    }
-    if site == 5 {
-        let names = &table[0..829];
-        return put_init_at(doc, places, names, enums, i, near, out, at);
-    }
-    if site == 17 {
-        let names = &table[0..829];
-        return put_error_emit_at(doc, places, names, enums, i, near, out, at);
-    }
     if is_judged(site) {
         return put_judged_at(
             doc,
@@ -141,13 +190,29 @@ pub fn put_finding<'a>(
             i,
             j,
             near,
+            bound,
             out,
             at,
         );
     }
-    if 20 < site {
-        let found = known.found;
-        return put_warning(doc, places, rows, count, found, site, i, j, out, at, near);
+    if is_straight(site) {
+        let end = put_straight(
+            doc,
+            places,
+            rows,
+            count,
+            known,
+            table,
+            enums,
+            claims,
+            site,
+            i,
+            j,
+            out,
+            at,
+            near,
+        );
+        return Done { end, bound };
     }
     let x = say_named(
         doc,
@@ -163,7 +228,11 @@ pub fn put_finding<'a>(
         j,
         near,
     );
-    put_said(out, at, doc, site, x)
+    let end = put_said(out, at, doc, site, x);
+    Done {
+        end,
+        bound: Bound::Nothing,
+    }
 }
 
 // The place of the list in which the entry stands that a finding of a transition is about, by its row.

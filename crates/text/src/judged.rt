@@ -17,8 +17,9 @@ use typing::null_at;
 use typing::type_expr;
 use typing::validate_output_expr;
 use typing::word;
-ghost use Prim.Native.Nat.{_+_, _≤_};
+ghost use Prim.Native.Nat.{ℕ, _+_, _≤_};
 ghost use mathlib.Core.Path.{_≡_};
+ghost use mathlib.Core.List.{List};
 ghost use lib.ListN.{length, take};
 ghost use Rattle.reading.specs.Limits.{maxList};
 ghost use Rattle.text.specs.Put.{Put};
@@ -27,8 +28,21 @@ ghost use Rattle.text.specs.Message.{saying, sayingText};
 ghost use Rattle.text.specs.Said.{sayingOf};
 ghost use Rattle.text.specs.Says.{WithOwn, Says, SaysGuard, SaysValue, SaysEmit, SaysInside, SaysJudged, PutsSaid};
 ghost use Rattle.text.specs.Pieces.{RowForm};
+ghost use Rattle.text.specs.Bound.{SeesNames, BoundTo};
 ghost use Rattle.text.specs.declared.said.Arg.the-variants.{Blank, Name, Number};
 ghost use Rattle.text.specs.declared.said.Said.the-variants.{Line};
+
+// The transition whose pattern was judged last, and how many words of the table have the names that it sees.
+pub enum Bound {
+    Row(u8, usize),
+    Nothing,
+}
+
+// Where a message ends, and the transition judged last.
+pub struct Done {
+    pub end: usize,
+    pub bound: Bound,
+}
 
 // Puts the message of a site of a transition: what was judged, and what is wrong with it.
 fn put_row<'a>(
@@ -177,7 +191,71 @@ fn put_inside<'a>(
     put_emit(doc, places, rows, i, names, enums, j, near, out, at)
 }
 
-// Sites 8, 9, 12 and 13, of transition i. The first block of the table has the module's variables; the pattern's bindings go into the second.
+// How many words of the table have the names that transition i sees: its pattern is judged, unless it was the last that was. The first block of the
+// table has the module's variables; the pattern's bindings go into the second.
+fn names_of<'a>(
+    doc: &'a [u8],
+    places: &'a [usize],
+    rows: &'a [usize],
+    i: u8,
+    table: &mut [usize],
+    bound: Bound,
+) -> usize
+    requires { ⌜ 1658 ≤ length (now table) ⌝ }
+    requires { ⌜ BoundTo (now doc) (now places) (now rows) (now table) bound ⌝ }
+    ensures { λ r. ⌜ SeesNames (now (doc .entry)) (now (places .entry)) (now (rows .entry)) i (take 829 (now (table .entry))) (now (table .exit)) r ⌝ }
+    ensures { λ _. ⌜ length (now (table .exit)) ≡ length (now (table .entry)) ⌝ }
+    ensures { λ _. ⌜ take 829 (now (table .exit)) ≡ take 829 (now (table .entry)) ⌝ }
+{
+    match bound {
+        Bound::Row(k, names) => {
+            if k == i {
+                return names;
+            }
+        }
+        Bound::Nothing => {}
+    }
+    let p = judge_pattern(doc, places, rows, i, table);
+    p.names
+}
+
+// Site 8: puts what is said of the pattern of transition i.
+fn put_pattern<'a>(
+    doc: &'a [u8],
+    places: &'a [usize],
+    rows: &'a [usize],
+    i: u8,
+    table: &mut [usize],
+    out: &mut [u8],
+    at: usize,
+) -> Done
+    requires { ⌜ 1658 ≤ length (now table) ⌝ }
+    requires { ⌜ (at ≤ 0x10_0000) × (length (now doc) ≤ 0xffff) ⌝ }
+    ensures { λ r. ⌜ ((enums : List ℕ) (j : ℕ) → PutsSaid (SaysJudged (now (doc .entry)) (now (places .entry)) (now (rows .entry)) i (take 829 (now (table .entry))) enums 8 j) (now (doc .entry)) 8 (now (out .entry)) at (r .end) (now (out .exit))) ⌝ }
+    ensures { λ r. ⌜ BoundTo (now (doc .entry)) (now (places .entry)) (now (rows .entry)) (now (table .exit)) (r .bound) ⌝ }
+    ensures { λ _. ⌜ length (now (table .exit)) ≡ length (now (table .entry)) ⌝ }
+    ensures { λ _. ⌜ take 829 (now (table .exit)) ≡ take 829 (now (table .entry)) ⌝ }
+    ensures { λ r. ⌜ r .end ≤ at + 0x60_0000 ⌝ }
+{
+    let p = judge_pattern(doc, places, rows, i, table);
+    let w = p.blame;
+    let end = put_row(
+        out,
+        at,
+        doc,
+        8,
+        b": event pattern: ",
+        word(places, 0),
+        i as u64,
+        w,
+    );
+    Done {
+        end,
+        bound: Bound::Row(i, p.names),
+    }
+}
+
+// Sites 8, 9, 12 and 13, of transition i.
 fn put_judged<'a>(
     doc: &'a [u8],
     places: &'a [usize],
@@ -188,35 +266,31 @@ fn put_judged<'a>(
     site: u32,
     j: usize,
     near: Near,
+    bound: Bound,
     out: &mut [u8],
     at: usize,
-) -> usize
+) -> Done
     requires { ⌜ Kept maxList (now doc) near ⌝ }
     requires { ⌜ 1658 ≤ length (now table) ⌝ }
+    requires { ⌜ BoundTo (now doc) (now places) (now rows) (now table) bound ⌝ }
     requires { ⌜ (at ≤ 0x10_0000) × (length (now doc) ≤ 0xffff) ⌝ }
     requires { ⌜ ((site ≡ 8 → ⊥) → (site ≡ 9 → ⊥) → (site ≡ 12 → ⊥) → site ≡ 13) ⌝ }
-    ensures { λ r. ⌜ PutsSaid (SaysJudged (now (doc .entry)) (now (places .entry)) (now (rows .entry)) i (take 829 (now (table .entry))) (now (enums .entry)) site j) (now (doc .entry)) site (now (out .entry)) at r (now (out .exit)) ⌝ }
+    ensures { λ r. ⌜ PutsSaid (SaysJudged (now (doc .entry)) (now (places .entry)) (now (rows .entry)) i (take 829 (now (table .entry))) (now (enums .entry)) site j) (now (doc .entry)) site (now (out .entry)) at (r .end) (now (out .exit)) ⌝ }
+    ensures { λ r. ⌜ BoundTo (now (doc .entry)) (now (places .entry)) (now (rows .entry)) (now (table .exit)) (r .bound) ⌝ }
     ensures { λ _. ⌜ length (now (table .exit)) ≡ length (now (table .entry)) ⌝ }
     ensures { λ _. ⌜ take 829 (now (table .exit)) ≡ take 829 (now (table .entry)) ⌝ }
-    ensures { λ r. ⌜ r ≤ at + 0x60_0000 ⌝ }
+    ensures { λ r. ⌜ r .end ≤ at + 0x60_0000 ⌝ }
 {
-    let p = judge_pattern(doc, places, rows, i, table);
     if site == 8 {
-        let w = p.blame;
-        return put_row(
-            out,
-            at,
-            doc,
-            8,
-            b": event pattern: ",
-            word(places, 0),
-            i as u64,
-            w,
-        );
+        return put_pattern(doc, places, rows, i, table, out, at);
     }
-    let end = p.names;
-    let names = &table[0..end];
-    put_inside(doc, places, rows, i, names, enums, site, j, near, out, at)
+    let n = names_of(doc, places, rows, i, table, bound);
+    let names = &table[0..n];
+    let end = put_inside(doc, places, rows, i, names, enums, site, j, near, out, at);
+    Done {
+        end,
+        bound: Bound::Row(i, n),
+    }
 }
 
 // The same, where there are so many transitions; nothing where i is past them.
@@ -231,20 +305,23 @@ pub(crate) fn put_judged_at<'a>(
     i: usize,
     j: usize,
     near: Near,
+    bound: Bound,
     out: &mut [u8],
     at: usize,
-) -> usize
+) -> Done
     requires { ⌜ Kept maxList (now doc) near ⌝ }
     requires { ⌜ 1658 ≤ length (now table) ⌝ }
+    requires { ⌜ BoundTo (now doc) (now places) (now rows) (now table) bound ⌝ }
     requires { ⌜ (at ≤ 0x10_0000) × (length (now doc) ≤ 0xffff) ⌝ }
     requires { ⌜ ((site ≡ 8 → ⊥) → (site ≡ 9 → ⊥) → (site ≡ 12 → ⊥) → site ≡ 13) ⌝ }
-    ensures { λ r. ⌜ PutsSaid (Says (WithOwn (now (doc .entry)) (now (places .entry)) (now (rows .entry)) count (take 829 (now (table .entry))) (now (enums .entry))) (now (doc .entry)) (saying site i j)) (now (doc .entry)) site (now (out .entry)) at r (now (out .exit)) ⌝ }
+    ensures { λ r. ⌜ PutsSaid (Says (WithOwn (now (doc .entry)) (now (places .entry)) (now (rows .entry)) count (take 829 (now (table .entry))) (now (enums .entry))) (now (doc .entry)) (saying site i j)) (now (doc .entry)) site (now (out .entry)) at (r .end) (now (out .exit)) ⌝ }
+    ensures { λ r. ⌜ BoundTo (now (doc .entry)) (now (places .entry)) (now (rows .entry)) (now (table .exit)) (r .bound) ⌝ }
     ensures { λ _. ⌜ length (now (table .exit)) ≡ length (now (table .entry)) ⌝ }
     ensures { λ _. ⌜ take 829 (now (table .exit)) ≡ take 829 (now (table .entry)) ⌝ }
-    ensures { λ r. ⌜ r ≤ at + 0x60_0000 ⌝ }
+    ensures { λ r. ⌜ r .end ≤ at + 0x60_0000 ⌝ }
 {
     if count as usize <= i {
-        return at;
+        return Done { end: at, bound };
     }
     put_judged(
         doc,
@@ -256,6 +333,7 @@ pub(crate) fn put_judged_at<'a>(
         site,
         j,
         near,
+        bound,
         out,
         at,
     )

@@ -31,6 +31,8 @@ pub use finding::put_finding;
 pub use finding::put_warning;
 use findings::Line;
 use findings::finding_at;
+pub use judged::Bound;
+pub use judged::Done;
 pub use out::put_bytes;
 pub use told::Told;
 pub use words::module_after;

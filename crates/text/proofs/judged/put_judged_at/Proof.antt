@@ -9,9 +9,9 @@ pub put-judged-at-spec : {M : Type 1} → statement M
 put-judged-at-spec =
     tie.close
     (tie.spec
-    (λ c. (puts-none (search judged-past), (search needs, (search needs, search needs))))
+    (λ c. (puts-none (search judged-past), (search needs, (search needs, (search needs, search needs)))))
     (λ c. search needs)
     (λ c κs. search needs)
     (λ c. search needs)
     (λ c. search needs)
-    (λ c. (search puts-judged, (search needs, (search needs, search needs)))))
+    (λ c. (search puts-judged, (search needs, (search needs, (search needs, search needs))))))
