@@ -290,7 +290,11 @@ fn table(count: usize, seed: u64) -> Done {
 }
 
 fn write_samples(dir: &Path) -> Done {
-    let costly = [samples::deepest(), samples::longest_guard()];
+    let costly = [
+        samples::deepest(),
+        samples::longest_guard(),
+        samples::roomiest(),
+    ];
     for sample in samples::samples().into_iter().chain(costly) {
         write_file(dir, &format!("{}.cbor", sample.name), &sample.bytes)?;
     }

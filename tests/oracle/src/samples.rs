@@ -92,7 +92,7 @@ pub fn costly() -> Vec<Sample> {
         ("unused", unused()),
         ("dead", dead()),
         ("unknown", unknown()),
-        ("equals", equalities()),
+        ("equals", equalities(3_900)),
         ("units", units()),
         ("bindings", bindings()),
         ("sets", sets()),
@@ -249,8 +249,8 @@ fn claimed(names: Vec<String>, modules: usize) -> Ir {
     ir((0..modules).map(module).collect())
 }
 
-/// One transition whose guard is 3,900 equalities of as many names.
-fn equalities() -> Ir {
+/// One transition whose guard is so many equalities of as many names.
+fn equalities(many: usize) -> Ir {
     let equal = |k: u8| {
         let name: String = [k / 16, k % 16]
             .map(|d| char::from(b'a' + d))
@@ -261,7 +261,7 @@ fn equalities() -> Ir {
             binary(BinOp::Eq, path(&[&name]), int(0))
         }
     };
-    let all = (0..=255).flat_map(|k| (0..16).map(equal(k))).take(3_900);
+    let all = (0..=255).flat_map(|k| (0..16).map(equal(k))).take(many);
     guarded(all.collect())
 }
 
@@ -281,7 +281,19 @@ fn guarded(all: Vec<Expr>) -> Ir {
 pub fn longest_guard() -> Sample {
     Sample {
         name: "equals",
-        bytes: encode(&equalities()),
+        bytes: encode(&equalities(3_900)),
+    }
+}
+
+/// A guard of 2,000 such equalities in a module with 3 outputs of 255 variants:
+/// those take stack too.
+pub fn roomiest() -> Sample {
+    let mut whole = equalities(2_000);
+    let units = || names("u").iter().map(|n| unit(n)).collect();
+    whole.modules[0].outputs = (0..3).map(|k| group(&format!("g{k}"), units())).collect();
+    Sample {
+        name: "roomiest",
+        bytes: encode(&whole),
     }
 }
 
