@@ -156,10 +156,10 @@ pub(crate) fn put_line<'a>(
         near,
         bound,
     );
-    Done {
-        end: end_line(page, done.end),
-        bound: done.bound,
-    }
+    let kept = done.bound;
+    let stop = done.end;
+    let end = end_line(page, stop);
+    Done { end, bound: kept }
 }
 
 // Looks up the entry that finding number i is about.

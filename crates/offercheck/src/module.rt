@@ -89,7 +89,8 @@ fn print_run<'a>(
             bound,
         );
         bound = done.bound;
-        at = print_full(page, done.end);
+        let end = done.end;
+        at = print_full(page, end);
         i += 1;
     }
     Reached {

@@ -20,7 +20,9 @@ abbrev μ-print-at : Measures 7 print-at-kinds.ps ℕ
 pub +print-at-spec : {M : Type 1} → statement M
 +print-at-spec =
     close μ-print-at λ t. print-at-lts.spec (print-wide-reads.Asked, print-wide-reads.Learnt, open-module-reads.Asked, open-module-reads.Learnt, needs-room-reads.Asked, needs-room-reads.Learnt, below print-at-kinds.ps μ-print-at print-at.Pre t, print-at.Post, print-opened-reads.Asked, print-opened-reads.Learnt) (meets print-at-kinds.ps μ-print-at print-at.Pre t) print-at.Post
-    (λ c κs. search needs)
+    (λ c κs.
+    let q = c .before .before .before .before .before .before .before .before .before .before .before .before .before .before .pre .1 .1 .1 .1 .1 .1 .1 .1 .1 in
+    (search needs, (search needs, (search needs, (search needs, (search needs, (search needs, (search needs, (omega (arith, q .0), (omega (arith, q .1 .0), omega (arith, q .1 .1)))))))))))
     (λ c. search needs) (λ c. search needs) (λ c. search needs) (λ c. search needs) (λ c. search needs)
     (λ c. search needs)
     (λ c κs. search needs) (λ c κs. search needs)
@@ -32,7 +34,9 @@ pub +print-at-spec : {M : Type 1} → statement M
     (λ c. search needs) (λ c. search needs) (λ c. search needs) (λ c. search needs) (λ c. search needs) (λ c. search needs)
     (λ c. search needs)
     (λ c κs.
-    let q = c .before .before .before .before .before .before .before .before .before .before .before .before .before .before .before .before .before .before .before .before .before .before .before .before .before .pre .1 .1 .1 .1 .1 .1 .1 .1 .1 in
-    (search needs, (search needs, (search needs, (search needs, (search needs, (search needs, (search needs, (omega (arith, q .0), (omega (arith, q .1 .0), omega (arith, q .1 .1)))))))))))
+    let p = c .before .before .before .before .before .before .before .before .before .before .before .before .before .before .before .before .before .before .before .before .before .before .before .before .before .pre .1 .1 in
+    let r = p .1 .1 in
+    let q = r .1 .1 .1 .1 .1 in
+    (search needs, (omega (arith, p .0), (omega (arith, p .1 .0), (omega (arith, r .0), (omega (arith, r .1 .0), (omega (arith, r .1 .1 .0), (search needs, (omega (arith, q .0), (omega (arith, q .1 .0), omega (arith, q .1 .1)))))))))))
     (λ c. search needs) (λ c. search needs) (λ c. search needs) (λ c. search needs) (λ c. search needs) (λ c. search needs)
     (λ c. search needs)

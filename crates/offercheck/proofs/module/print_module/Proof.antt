@@ -25,8 +25,9 @@ print-module-spec =
     (λ c. (omega arith, (omega arith, search needs)))
     (λ c κs. search needs)
     (λ c κs.
-    let p = c .before .before .before .before .before .before .before .before .before .before .before .before .before .before .before .before .before .before .before .before .before .pre .1 .1 .1 .1 .1 .1 .1 in
-    (search picked-at, (omega arith, (search needs, (search needs, (search needs, (search needs, (search needs, (search needs, (omega (arith, p .0), (omega (arith, p .1 .0), omega (arith, p .1 .1))))))))))))
+    let o = c .before .before .before .before .before .before .before .before .before .before .before .before .before .before .before .before .before .before .before .before .before .pre .1 .1 .1 .1 .1 in
+    let p = o .1 .1 in
+    (search picked-at, (omega arith, (search needs, (search needs, (search needs, (search needs, (omega (arith, o .0), (omega (arith, o .1 .0), (omega (arith, p .0), (omega (arith, p .1 .0), omega (arith, p .1 .1))))))))))))
     (λ c. search needs)
     (λ c. search needs)
     (λ c. search needs)
