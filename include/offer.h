@@ -1,7 +1,7 @@
 /* The offer-module checker, as a C library: liboffer.a, which `rt staticlib offer` writes.
  *
  * Every call ends, on every input, and expects nothing of what the bytes hold. A call takes no more memory than its
- * stack: 8 KB for offer_read, 207 KB for offer_findings and 239 KB for offer_message were measured (docs/BENCHMARKS.md).
+ * stack: 8 KB for offer_read, 339 KB for offer_findings and 371 KB for offer_message were measured (docs/BENCHMARKS.md).
  * The calls keep no state, so any number of threads may make them at once.
  *
  * A pointer and the length after it are a buffer: the pointer is not NULL, even where the length is 0, and the buffers
