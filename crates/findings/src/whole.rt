@@ -449,7 +449,7 @@ fn walk_module(
     )
 }
 
-// How many turns a walk over a module has: one where a document is so long that it may need more room.
+// How many turns a walk over a module has. That it depends on the document keeps the compiler from doing away with them.
 fn turns_of(doc: &[u8]) -> u8 {
     if doc.len() < 2048 {
         return 2;

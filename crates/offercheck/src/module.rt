@@ -363,7 +363,7 @@ fn print_at<'a>(
     )
 }
 
-// How many turns it has.
+// How many turns it has. That it depends on the list keeps the compiler from doing away with them.
 fn turns_for(warning: bool) -> u8 {
     if warning {
         return 2;
