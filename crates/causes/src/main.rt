@@ -2,6 +2,8 @@
 // of an item and the cause that the original Rust gives for it. Prints each step that the typing layer answers
 // otherwise, and how many there are. With two words, `read` or `type` and a number, it reads or types the first
 // document so many times, for bench/typing.
+#![tactic(auto)]
+
 mod judge;
 mod steps;
 mod tally;
@@ -14,7 +16,7 @@ use tally::{Tally, next_word, report};
 const SPACE: usize = 200000;
 
 // The record's document and then its steps; how long each is, and whether there was one.
-#[derive(Drop)]
+#[derive(Clone, Copy)]
 pub(crate) struct Record {
     doc: usize,
     end: usize,

@@ -3,7 +3,7 @@ use crate::judge::{number_of, sees_bindings};
 use crate::tally::{Tally, counted, document, print, print_number, word};
 
 // A step: the kind of an item, the number that is due, and the item's place.
-#[derive(Drop)]
+#[derive(Clone, Copy)]
 struct Step {
     kind: u64,
     due: u32,
@@ -12,7 +12,7 @@ struct Step {
 
 // How many words of the tables are filled with groups of events, and with the blocks of variables and bindings; and the number that was given
 // last.
-#[derive(Drop)]
+#[derive(Clone, Copy)]
 struct State {
     events: usize,
     bound: usize,

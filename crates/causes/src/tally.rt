@@ -5,7 +5,7 @@ use libc::STDOUT_FILENO;
 
 // How many documents there were; how many items were found without a fault, with one, and otherwise than is due; and
 // whether the file has ended.
-#[derive(Drop)]
+#[derive(Clone, Copy)]
 pub(crate) struct Tally {
     pub(crate) documents: u64,
     pub(crate) sound: u64,

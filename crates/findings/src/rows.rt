@@ -181,7 +181,7 @@ fn fill_move(doc: &[u8], at: usize, table: &mut [usize], j: usize) -> usize
 }
 
 // How many records a list has, and the place after it.
-#[derive(Drop)]
+#[derive(Clone, Copy)]
 pub struct Listed {
     pub count: u8,
     pub end: usize,

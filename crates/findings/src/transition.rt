@@ -118,7 +118,7 @@ fn bind_pattern<'a>(
 }
 
 // What is wrong with a pattern, and how many words of a table are the names with those that it binds.
-#[derive(Drop)]
+#[derive(Clone, Copy)]
 pub struct Judged {
     pub blame: Blame,
     pub names: usize,

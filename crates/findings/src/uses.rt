@@ -9,7 +9,7 @@ use reading::text_at;
 use typing::{Found, after, after_head, after_tag, first_variant, null_at, print_bytes, same};
 
 // How many variants the patterns of a group name, and whether one of them names none.
-#[derive(Drop)]
+#[derive(Clone, Copy)]
 pub struct Uses {
     pub named: u8,
     pub bare: bool,

@@ -16,7 +16,7 @@ use reading::{Answer, Cursor};
 use typing::{Found, after, after_head, outgrows, word};
 
 // The next number of an error and of a warning.
-#[derive(Drop)]
+#[derive(Clone, Copy)]
 pub struct Totals {
     pub errors: usize,
     pub warnings: usize,
@@ -99,7 +99,7 @@ fn judge_named<'a>(
 }
 
 // The numbers after a module, and the place after it.
-#[derive(Drop)]
+#[derive(Clone, Copy)]
 pub struct Passed {
     pub errors: usize,
     pub warnings: usize,
@@ -134,7 +134,7 @@ pub fn states_of<'a>(doc: &'a [u8], places: &'a [usize]) -> Found
 }
 
 // The first enum called State, and how many words the table of properties and assumptions takes.
-#[derive(Drop)]
+#[derive(Clone, Copy)]
 pub struct Ready {
     pub found: Found,
     pub claims: usize,

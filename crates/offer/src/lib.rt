@@ -1,4 +1,6 @@
 // The C interface. include/offer.h says what C sees of it.
+#![tactic(auto)]
+
 ghost use Rattle.std.specs.Prelude.{◌≡◌, [], ◌∷◌, length};
 ghost use Rattle.reading.specs.Document.{read_document};
 ghost use Rattle.reading.specs.Fault.{number};

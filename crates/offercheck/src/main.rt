@@ -1,5 +1,7 @@
 // Reads a document from standard input and prints what is found in it: one message a line, errors, then warnings after
 // "warning: ", then both counts; or only the refusal's number and place.
+#![tactic(auto)]
+
 mod line;
 mod lists;
 mod module;

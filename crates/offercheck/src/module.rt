@@ -11,7 +11,7 @@ use text::{Bound, Near, module_after, module_at};
 use typing::{Found, outgrows, word};
 
 // How far a list is put: the number of the next finding, where the page has room for its line, and the module after the last, which is near.
-#[derive(Drop)]
+#[derive(Clone, Copy)]
 pub(crate) struct Reached {
     pub(crate) next: usize,
     pub(crate) at: usize,

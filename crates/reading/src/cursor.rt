@@ -6,13 +6,13 @@ ghost use Rattle.reading.specs.Link.{head_of};
 use crate::fault::Fault;
 
 // A place in the document.
-#[derive(Drop)]
+#[derive(Clone, Copy)]
 pub struct Cursor {
     pub at: usize,
 }
 
 // A head: major type, argument and the cursor after it; or what is wrong, and where.
-#[derive(Drop)]
+#[derive(Clone, Copy)]
 pub enum Head {
     Item(u8, u64, Cursor),
     Refused(Fault, usize),

@@ -11,28 +11,28 @@ use crate::item::{Tag, Tagged};
 use crate::limits;
 use crate::step::Step;
 
-#[derive(Drop)]
+#[derive(Clone, Copy)]
 pub struct EnumDecl {}
 
 impl EnumDecl {
     pub const FIELDS: u64 = 2;
 }
 
-#[derive(Drop)]
+#[derive(Clone, Copy)]
 pub struct FieldDecl {}
 
 impl FieldDecl {
     pub const FIELDS: u64 = 2;
 }
 
-#[derive(Drop)]
+#[derive(Clone, Copy)]
 pub struct ConstructorGroup {}
 
 impl ConstructorGroup {
     pub const FIELDS: u64 = 2;
 }
 
-#[derive(Drop)]
+#[derive(Clone, Copy)]
 pub struct VarDecl {}
 
 impl VarDecl {
@@ -42,7 +42,7 @@ impl VarDecl {
 impl Step {
     pub(crate) fn enum_decl(self, doc: &[u8]) -> Step
         ensures value { result ≡ onward doc.now self read_enum_decl }
-        ensures* fields { do ⌜ (← (⟦EnumDecl::FIELDS⟧).entry) ≡ 2 ⌝ }
+        ensures fields { EnumDecl.FIELDS ≡ 2 }
     {
         self.fields(doc, EnumDecl::FIELDS)
             .name(doc)
@@ -76,7 +76,7 @@ impl Step {
 
     pub(crate) fn field_decl(self, doc: &[u8]) -> Step
         ensures value { result ≡ onward doc.now self read_field_decl }
-        ensures* fields { do ⌜ (← (⟦FieldDecl::FIELDS⟧).entry) ≡ 2 ⌝ }
+        ensures fields { FieldDecl.FIELDS ≡ 2 }
     {
         self.fields(doc, FieldDecl::FIELDS).name(doc).ty(doc)
     }
@@ -122,7 +122,7 @@ impl Step {
 
     pub(crate) fn constructor_group(self, doc: &[u8]) -> Step
         ensures value { result ≡ onward doc.now self read_constructor_group }
-        ensures* fields { do ⌜ (← (⟦ConstructorGroup::FIELDS⟧).entry) ≡ 2 ⌝ }
+        ensures fields { ConstructorGroup.FIELDS ≡ 2 }
     {
         self.fields(doc, ConstructorGroup::FIELDS)
             .name(doc)
@@ -145,7 +145,7 @@ impl Step {
 
     pub(crate) fn var_decl(self, doc: &[u8]) -> Step
         ensures value { result ≡ onward doc.now self read_var_decl }
-        ensures* fields { do ⌜ (← (⟦VarDecl::FIELDS⟧).entry) ≡ 3 ⌝ }
+        ensures fields { VarDecl.FIELDS ≡ 3 }
     {
         self.fields(doc, VarDecl::FIELDS)
             .name(doc)

@@ -1,5 +1,5 @@
 // Why bytes are refused, in the order of document 01's table; its desk word stands behind each.
-#[derive(Drop)]
+#[derive(Clone, Copy)]
 pub enum Fault {
     // 1, bulky: the document is over 65,535 bytes long.
     TooLong,

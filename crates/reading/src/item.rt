@@ -11,14 +11,14 @@ use crate::limits;
 use crate::step::Step;
 
 // An item with a number: the number and the cursor after the item; or what is wrong, and where.
-#[derive(Drop)]
+#[derive(Clone, Copy)]
 pub enum Answer {
     Got(u64, Cursor),
     Refused(Fault, usize),
 }
 
 // The head of a data enum: the array's start and count, the case number and its place.
-#[derive(Drop)]
+#[derive(Clone, Copy)]
 pub struct Tag {
     pub start: usize,
     pub count: u64,
@@ -26,7 +26,7 @@ pub struct Tag {
     pub place: usize,
 }
 
-#[derive(Drop)]
+#[derive(Clone, Copy)]
 pub enum Tagged {
     Case(Tag, Cursor),
     Refused(Fault, usize),

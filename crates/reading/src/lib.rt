@@ -2,6 +2,8 @@
 //
 // `read_document` reads it all. A `Cursor` reads one item and hands back the cursor after it; a `Step` is where reading
 // stands, and reads on after what was read before. `specs/` says what is right, `proofs/` why.
+#![tactic(auto)]
+
 mod cursor;
 mod decl;
 mod expr;
@@ -30,7 +32,7 @@ pub use text::Text;
 pub use walk::text_at;
 
 // What is said of a whole document.
-#[derive(Drop)]
+#[derive(Clone, Copy)]
 pub enum Verdict {
     Accepted,
     Refused(Fault, usize),

@@ -8,21 +8,21 @@ ghost use Rattle.reading.specs.Link.{onward};
 use crate::limits;
 use crate::step::Step;
 
-#[derive(Drop)]
+#[derive(Clone, Copy)]
 pub struct Property {}
 
 impl Property {
     pub const FIELDS: u64 = 2;
 }
 
-#[derive(Drop)]
+#[derive(Clone, Copy)]
 pub struct Module {}
 
 impl Module {
     pub const FIELDS: u64 = 11;
 }
 
-#[derive(Drop)]
+#[derive(Clone, Copy)]
 pub struct Ir {}
 
 impl Ir {
@@ -32,7 +32,7 @@ impl Ir {
 impl Step {
     pub(crate) fn property(self, doc: &[u8]) -> Step
         ensures value { result ≡ onward doc.now self read_property }
-        ensures* fields { do ⌜ (← (⟦Property::FIELDS⟧).entry) ≡ 2 ⌝ }
+        ensures fields { Property.FIELDS ≡ 2 }
     {
         self.fields(doc, Property::FIELDS)
             .name(doc)
@@ -55,7 +55,7 @@ impl Step {
 
     pub(crate) fn module(self, doc: &[u8]) -> Step
         ensures value { result ≡ onward doc.now self read_module }
-        ensures* fields { do ⌜ (← (⟦Module::FIELDS⟧).entry) ≡ 11 ⌝ }
+        ensures fields { Module.FIELDS ≡ 11 }
     {
         self.fields(doc, Module::FIELDS)
             .name(doc)
@@ -87,7 +87,7 @@ impl Step {
 
     pub(crate) fn ir(self, doc: &[u8]) -> Step
         ensures value { result ≡ onward doc.now self read_ir }
-        ensures* fields { do ⌜ (← (⟦Ir::FIELDS⟧).entry) ≡ 2 ⌝ }
+        ensures fields { Ir.FIELDS ≡ 2 }
     {
         self.fields(doc, Ir::FIELDS).ir_version(doc).modules(doc)
     }

@@ -11,7 +11,7 @@ use crate::item::{Tag, Tagged};
 use crate::limits;
 use crate::step::{Null, Step};
 
-#[derive(Drop)]
+#[derive(Clone, Copy)]
 pub struct PatternField {}
 
 impl PatternField {
@@ -19,7 +19,7 @@ impl PatternField {
 }
 
 // EventPattern and OutputPattern.
-#[derive(Drop)]
+#[derive(Clone, Copy)]
 pub struct Pattern {}
 
 impl Pattern {
@@ -39,7 +39,7 @@ impl Step {
 
     pub(crate) fn pattern_field(self, doc: &[u8]) -> Step
         ensures value { result ≡ onward doc.now self read_pattern_field }
-        ensures* fields { do ⌜ (← (⟦PatternField::FIELDS⟧).entry) ≡ 2 ⌝ }
+        ensures fields { PatternField.FIELDS ≡ 2 }
     {
         self.fields(doc, PatternField::FIELDS)
             .optional_name(doc)
@@ -82,7 +82,7 @@ impl Step {
 
     pub(crate) fn pattern(self, doc: &[u8]) -> Step
         ensures value { result ≡ onward doc.now self read_pattern }
-        ensures* fields { do ⌜ (← (⟦Pattern::FIELDS⟧).entry) ≡ 2 ⌝ }
+        ensures fields { Pattern.FIELDS ≡ 2 }
     {
         self.fields(doc, Pattern::FIELDS)
             .name(doc)

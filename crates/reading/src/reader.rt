@@ -7,7 +7,7 @@ ghost use Rattle.reading.specs.Link.{head_of};
 
 use crate::cursor::{Cursor, Head, head_at};
 
-#[derive(Drop)]
+#[derive(Clone, Copy)]
 pub struct Reader<'a> {
     pub doc: &'a [u8],
     pub at: usize,

@@ -14,14 +14,14 @@ use crate::limits;
 use crate::text::Text;
 
 // At a cursor; or what is wrong, and where.
-#[derive(Drop)]
+#[derive(Clone, Copy)]
 pub enum Step {
     To(Cursor),
     Refused(Fault, usize),
 }
 
 // Whether null stands there, and the cursor after it.
-#[derive(Drop)]
+#[derive(Clone, Copy)]
 pub enum Null {
     Past(Cursor),
     Not,

@@ -11,7 +11,7 @@ use crate::item::Answer;
 use crate::limits;
 
 // What a string is: a name has a byte at least, and a narrower alphabet.
-#[derive(Drop)]
+#[derive(Clone, Copy)]
 pub enum Text {
     Name,
     Version,

@@ -8,28 +8,28 @@ ghost use Rattle.reading.specs.Link.{onward};
 use crate::limits;
 use crate::step::{Null, Step};
 
-#[derive(Drop)]
+#[derive(Clone, Copy)]
 pub struct OutputExpr {}
 
 impl OutputExpr {
     pub const FIELDS: u64 = 3;
 }
 
-#[derive(Drop)]
+#[derive(Clone, Copy)]
 pub struct Assignment {}
 
 impl Assignment {
     pub const FIELDS: u64 = 2;
 }
 
-#[derive(Drop)]
+#[derive(Clone, Copy)]
 pub struct OnError {}
 
 impl OnError {
     pub const FIELDS: u64 = 2;
 }
 
-#[derive(Drop)]
+#[derive(Clone, Copy)]
 pub struct Transition {}
 
 impl Transition {
@@ -39,7 +39,7 @@ impl Transition {
 impl Step {
     pub(crate) fn output_expr(self, doc: &[u8]) -> Step
         ensures value { result ≡ onward doc.now self read_output_expr }
-        ensures* fields { do ⌜ (← (⟦OutputExpr::FIELDS⟧).entry) ≡ 3 ⌝ }
+        ensures fields { OutputExpr.FIELDS ≡ 3 }
     {
         self.fields(doc, OutputExpr::FIELDS)
             .name(doc)
@@ -63,7 +63,7 @@ impl Step {
 
     pub(crate) fn assignment(self, doc: &[u8]) -> Step
         ensures value { result ≡ onward doc.now self read_assignment }
-        ensures* fields { do ⌜ (← (⟦Assignment::FIELDS⟧).entry) ≡ 2 ⌝ }
+        ensures fields { Assignment.FIELDS ≡ 2 }
     {
         self.fields(doc, Assignment::FIELDS).name(doc).top_expr(doc)
     }
@@ -84,7 +84,7 @@ impl Step {
 
     pub(crate) fn on_error(self, doc: &[u8]) -> Step
         ensures value { result ≡ onward doc.now self read_on_error }
-        ensures* fields { do ⌜ (← (⟦OnError::FIELDS⟧).entry) ≡ 2 ⌝ }
+        ensures fields { OnError.FIELDS ≡ 2 }
     {
         self.fields(doc, OnError::FIELDS)
             .name(doc)
@@ -103,7 +103,7 @@ impl Step {
 
     pub(crate) fn transition(self, doc: &[u8]) -> Step
         ensures value { result ≡ onward doc.now self read_transition }
-        ensures* fields { do ⌜ (← (⟦Transition::FIELDS⟧).entry) ≡ 8 ⌝ }
+        ensures fields { Transition.FIELDS ≡ 8 }
     {
         self.fields(doc, Transition::FIELDS)
             .number(doc, limits::U64)

@@ -12,14 +12,14 @@ use crate::item::Answer;
 use crate::step::Step;
 
 // Past an item whose head is one byte, or a string's two: how many items are then left; or it has another head, or its bytes are not there.
-#[derive(Drop)]
+#[derive(Clone, Copy)]
 enum Short {
     Past(u64, Cursor),
     Longer,
 }
 
 // The items that are left, and where the first stands.
-#[derive(Drop)]
+#[derive(Clone, Copy)]
 struct Rest {
     left: u64,
     at: usize,

@@ -6,7 +6,7 @@ use crate::sheet::{Due, findings_of, judge};
 
 // How many documents were accepted and refused as is due, and how many were not; how many findings there were; and whether
 // the file has ended.
-#[derive(Drop)]
+#[derive(Clone, Copy)]
 struct Tally {
     accepted: u64,
     findings: u64,

@@ -1,5 +1,7 @@
 // Replays data/vectors.bin: each record has a document and the answer that is due, made by tests/oracle. Prints each
 // document that is answered otherwise, and how many there are. Then data/findings.bin and data/messages.bin alike.
+#![tactic(auto)]
+
 mod file;
 mod findings;
 mod lines;
@@ -9,7 +11,7 @@ mod sheet;
 use file::{more, next_byte, next_word, print, print_number};
 
 // A record's outcome.
-#[derive(Drop)]
+#[derive(Clone, Copy)]
 enum Outcome {
     // There is no further record.
     End,
@@ -66,7 +68,7 @@ fn replay_one(fd: i32, space: &mut [u8]) -> Outcome {
 }
 
 // How many documents were answered how, and whether the file has ended.
-#[derive(Drop)]
+#[derive(Clone, Copy)]
 struct Tally {
     accepted: u64,
     refused: u64,

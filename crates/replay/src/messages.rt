@@ -3,7 +3,7 @@ use crate::file::{more, next_word, print, print_number, read_front};
 use crate::lines::as_due;
 
 // How many documents were answered as is due and otherwise, and whether the file has ended.
-#[derive(Drop)]
+#[derive(Clone, Copy)]
 struct Tally {
     right: u64,
     wrong: u64,

@@ -10,7 +10,7 @@ const OLD: u32 = 2882400001;
 const LENT: usize = 16380;
 
 // What a call is to answer: its number, and two words.
-#[derive(Drop)]
+#[derive(Clone, Copy)]
 pub(crate) struct Due {
     pub(crate) number: u64,
     pub(crate) first: u64,

@@ -1,5 +1,7 @@
 // The examples of RFC 8949, Appendix A, through the head reader: data/examples.bin has each as its length and its bytes.
 // A head of a major type that no item of a document has is refused whatever is due; the line says so.
+#![tactic(auto)]
+
 use libc::STDOUT_FILENO;
 use reading::{Answer, Cursor, Fault, Head};
 

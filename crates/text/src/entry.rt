@@ -8,14 +8,14 @@ use reading::{Answer, Cursor};
 use typing::{Found, after};
 
 // An entry that was looked up: the place of its list, its number there, and its own place. The next is often not far behind it.
-#[derive(Drop)]
+#[derive(Clone, Copy)]
 pub enum Near {
     Entry(usize, usize, usize),
     Nothing,
 }
 
 // An entry's number and its place.
-#[derive(Drop)]
+#[derive(Clone, Copy)]
 pub struct Numbered {
     pub number: usize,
     pub place: usize,

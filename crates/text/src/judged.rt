@@ -21,14 +21,14 @@ use findings::{field, judge_pattern, outputs_of};
 use typing::{Blame, Found, after, after_head, null_at, type_expr, validate_output_expr, word};
 
 // The transition whose pattern was judged last, and how many words of the table have the names that it sees.
-#[derive(Drop)]
+#[derive(Clone, Copy)]
 pub enum Bound {
     Row(u8, usize),
     Nothing,
 }
 
 // Where a message ends, and the transition judged last.
-#[derive(Drop)]
+#[derive(Clone, Copy)]
 pub struct Done {
     pub end: usize,
     pub bound: Bound,

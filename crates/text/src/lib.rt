@@ -1,6 +1,8 @@
 // Text: the message of each finding, as validator.rs words it.
 //
 // `specs/` says what is right, over the document's content; `proofs/` says why the code gives it.
+#![tactic(auto)]
+
 mod aft;
 mod blame;
 mod cause;

@@ -6,7 +6,7 @@ ghost use Rattle.text.specs.declared.said.Said.TheVariants.{Line};
 use typing::{Blame, Ty, What};
 
 // An argument. A name is the place where it stands in the document, and a path the place of its list.
-#[derive(Drop)]
+#[derive(Clone, Copy)]
 pub enum Arg {
     Blank,
     Name(usize),
@@ -17,7 +17,7 @@ pub enum Arg {
 }
 
 // Five arguments and what is wrong; or nothing to say.
-#[derive(Drop)]
+#[derive(Clone, Copy)]
 pub enum Said {
     Nothing,
     Line(Arg, Arg, Arg, Arg, Arg, Blame),

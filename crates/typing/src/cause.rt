@@ -2,7 +2,7 @@
 use crate::ty::Ty;
 
 // What has to be a bool.
-#[derive(Drop)]
+#[derive(Clone, Copy)]
 pub enum What {
     Operand,
     Left,
@@ -12,7 +12,7 @@ pub enum What {
 }
 
 // A name is the place where it stands in the document, and a path the place of its list.
-#[derive(Drop)]
+#[derive(Clone, Copy)]
 pub enum Cause {
     // 1: the group.
     UnknownEventGroup(usize),
@@ -79,14 +79,14 @@ pub enum Cause {
 }
 
 // An expression's type and the place after it; or why it has none.
-#[derive(Drop)]
+#[derive(Clone, Copy)]
 pub enum Typed {
     Is(Ty, usize),
     Fails(Cause),
 }
 
 // The field or argument that a cause is about: the place of its name; or none of them.
-#[derive(Drop)]
+#[derive(Clone, Copy)]
 pub enum Within {
     Alone,
     Field(usize),
@@ -94,14 +94,14 @@ pub enum Within {
 }
 
 // What is wrong with a pattern or an output, if anything.
-#[derive(Drop)]
+#[derive(Clone, Copy)]
 pub enum Blame {
     Nothing,
     Found(Within, Cause),
 }
 
 // What is wrong with a pattern, and how many words of a table its bindings take.
-#[derive(Drop)]
+#[derive(Clone, Copy)]
 pub struct Bindings {
     pub blame: Blame,
     pub words: usize,

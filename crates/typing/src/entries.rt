@@ -8,7 +8,7 @@ use crate::table::after;
 use reading::{Answer, Cursor, Tagged};
 
 // How many entries a list has, and where the first of them stands.
-#[derive(Drop)]
+#[derive(Clone, Copy)]
 pub struct Entries {
     pub many: u64,
     pub first: usize,

@@ -9,14 +9,14 @@ use crate::side::{Side, side_at};
 use reading::{Answer, Cursor, Tagged, text_at};
 
 // The place of a name and the value that it is said to equal, if any.
-#[derive(Drop)]
+#[derive(Clone, Copy)]
 pub enum Equality {
     Nothing,
     Is(usize, u64),
 }
 
 // The place of the two operands of &&, or what any other expression says.
-#[derive(Drop)]
+#[derive(Clone, Copy)]
 pub enum Conjunct {
     And(usize),
     One(Equality),

@@ -16,7 +16,7 @@ use crate::table::{Found, after, after_case};
 use reading::text_at;
 
 // The name of a pattern's field, by its place: none, one that an earlier field has, or a new one.
-#[derive(Drop)]
+#[derive(Clone, Copy)]
 pub enum Naming {
     Unnamed,
     Again(usize),
@@ -24,7 +24,7 @@ pub enum Naming {
 }
 
 // Where the two fields of a record stand: a name, and what is under it.
-#[derive(Drop)]
+#[derive(Clone, Copy)]
 pub struct Parts {
     pub name: usize,
     pub under: usize,

@@ -8,7 +8,7 @@ use crate::table::after_any;
 use reading::{Answer, Cursor, Tagged};
 
 // What stands in a formula: a pattern, an expression, one formula, a bound and a formula, or two formulas.
-#[derive(Drop)]
+#[derive(Clone, Copy)]
 pub enum Kind {
     Input,
     Output,

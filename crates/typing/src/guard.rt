@@ -11,7 +11,7 @@ use crate::seen::{Seen, clash_in_one_pass};
 use reading::{Answer, Cursor, text_at};
 
 // A name, by its place, with an earlier value and one that differs from it.
-#[derive(Drop)]
+#[derive(Clone, Copy)]
 pub enum Clash {
     Nothing,
     Found(usize, u64, u64),

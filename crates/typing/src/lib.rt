@@ -1,6 +1,8 @@
 // Typing: the types of expressions, patterns, outputs and formulas of an accepted document, with their causes.
 //
 // `specs/` says what is right, over the document's content; `proofs/` says why the code gives it.
+#![tactic(auto)]
+
 mod args;
 mod binds;
 mod block;

@@ -7,7 +7,7 @@ use crate::cause::{Cause, Typed, What};
 use crate::ty::{Bits, Ty, bits_of, is_bool, literal_with_bits, literal_with_bool, same_ty};
 
 // What is wrong, if anything.
-#[derive(Drop)]
+#[derive(Clone, Copy)]
 pub enum Fit {
     Fine,
     Unfit(Cause),

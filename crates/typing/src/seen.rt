@@ -9,7 +9,7 @@ use crate::table::Found;
 use reading::text_at;
 
 // How many pairs the table has; a name, by its place, with an earlier value and one that differs from it; or no room.
-#[derive(Drop)]
+#[derive(Clone, Copy)]
 pub enum Seen {
     Many(usize),
     Clash(usize, u64, u64),

@@ -112,7 +112,7 @@ pub(crate) fn has_variant<'a>(doc: &'a [u8], table: &'a [usize], w: usize, name:
 }
 
 // The marks of some names, the first's lowest, and where the names end.
-#[derive(Drop)]
+#[derive(Clone, Copy)]
 pub struct Packed {
     pub marks: usize,
     pub next: usize,

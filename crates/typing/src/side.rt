@@ -4,7 +4,7 @@ ghost use Rattle.typing.specs.Equalities.{ValueAt, NameAt, SideAt};
 use reading::{Answer, Cursor, Tagged};
 
 // A side of ==: a literal, the name of a path that has no other, or anything else.
-#[derive(Drop)]
+#[derive(Clone, Copy)]
 pub enum Side {
     Value(u64),
     Name(usize),

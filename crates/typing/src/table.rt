@@ -11,7 +11,7 @@ use crate::ty::Ty;
 use reading::{Answer, Cursor, Step, Tagged, text_at};
 
 // What stands under a name: its place.
-#[derive(Drop)]
+#[derive(Clone, Copy)]
 pub enum Found {
     At(usize),
     Nothing,

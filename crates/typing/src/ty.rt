@@ -7,7 +7,7 @@ use crate::names::{is_word, same_name};
 
 // A type. The name of an enum is the place where it stands in the document; `state` has the type `State` though no
 // enum of that name may be declared.
-#[derive(Drop)]
+#[derive(Clone, Copy)]
 pub enum Ty {
     Bool,
     Bit(u32),
@@ -17,7 +17,7 @@ pub enum Ty {
 }
 
 // A type as an operand of arithmetic.
-#[derive(Drop)]
+#[derive(Clone, Copy)]
 pub enum Bits {
     Width(u32),
     Literal,

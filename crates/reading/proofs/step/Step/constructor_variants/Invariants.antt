@@ -1,0 +1,11 @@
+-- Before turn i, what remains of the list decides.
+use Prim.Native.Nat.{◌≤◌, ◌-◌}
+use Rattle.reading.specs.Decl.{read_constructor_variant}
+use Rattle.reading.proofs.Threads.{Remains}
+use Rattle.reading.proofs.step.Step.constructor_variants.Given as goal
+
+abbrev pub invariant-loop-i : goal.invariant-loop-i
+invariant-loop-i l = (l.i ≤ l.n) × Remains l.doc read_constructor_variant l.n l.i l.initial.r l.r
+
+abbrev pub decreases-loop-i : goal.decreases-loop-i
+decreases-loop-i l = l.n - l.i

@@ -1,8 +1,0 @@
--- Read at the cursor, and the number dropped.
-use borrow.Author.Rules.{rules}
-use Rattle.reading.proofs.Threads.{number_step, onward_out}
-use Rattle.reading.proofs.step.Step.number.Statement.{statement}
-use Rattle.reading.proofs.step.Step.number.Tie as tie
-
-pub number_spec : {M : Type 1} → statement M
-number_spec = tie.close (tie.spec (λ c. search rules) (λ c κs. search rules) (λ c κs. search rules) (λ c. search rules) (λ c. search number_step) (λ c. search onward_out))

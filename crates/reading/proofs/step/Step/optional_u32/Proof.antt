@@ -1,8 +1,0 @@
--- Null, or a number.
-use borrow.Author.Rules.{rules}
-use Rattle.reading.proofs.Threads.{option_null, option_some}
-use Rattle.reading.proofs.step.Step.optional_u32.Statement.{statement}
-use Rattle.reading.proofs.step.Step.optional_u32.Tie as tie
-
-pub optional_u32_spec : {M : Type 1} → statement M
-optional_u32_spec = tie.close (tie.spec (λ c κs. search rules) (λ c. search rules) (λ c. search rules) (λ c κs. search rules) (λ c. search option_null) (λ c. search option_some))

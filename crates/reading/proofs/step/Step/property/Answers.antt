@@ -1,0 +1,13 @@
+-- The head, then each field.
+use mathlib.Core.Path.{refl}
+use Rattle.reading.specs.Module.{read_property}
+use Rattle.reading.proofs.Threads.{record_read, then_read}
+use Rattle.reading.proofs.step.Step.property.Goals as goal
+
+pub returns-clause-value : goal.returns-clause-value
+unfolding read_property
+returns-clause-value c = search (record_read, then_read)
+
+pub returns-clause-fields : goal.returns-clause-fields
+unfolding read_property
+returns-clause-fields c = refl
