@@ -1,4 +1,4 @@
-/* The offer-module checker, as a C library: liboffer.a, which `rt staticlib offer` writes.
+/* The offer-module checker, as a C library: liboffer.a, which tools/archive writes.
  *
  * Every call ends, on every input, and expects nothing of what the bytes hold. A call takes no more memory than its
  * stack: 8 KB for offer_read, 339 KB for offer_findings and 371 KB for offer_message were measured (docs/BENCHMARKS.md).

@@ -9,6 +9,9 @@ mod steps;
 mod tally;
 mod timed;
 
+use std::env::{Env, FillError};
+use std::fs::File;
+use std::io::{Read, Result, Stdout};
 use steps::replay_steps;
 use tally::{Tally, next_word, report};
 
@@ -32,7 +35,7 @@ fn no_record() -> Record {
 }
 
 // Reads so many bytes to a part of the space; false where the file or the space ends before.
-fn read_part(fd: i32, space: &mut [u8], start: usize, len: usize) -> bool {
+fn read_part(file: &mut File, space: &mut [u8], start: usize, len: usize) -> bool {
     if space.len() < start {
         return false;
     }
@@ -40,21 +43,21 @@ fn read_part(fd: i32, space: &mut [u8], start: usize, len: usize) -> bool {
         return false;
     }
     let end = start + len;
-    io::read_full(fd, &mut space[start..end]) == len
+    file.read_exact(&mut space[start..end]).is_ok()
 }
 
 // Reads the next record.
-pub(crate) fn read_record(fd: i32, space: &mut [u8]) -> Record {
-    let doc = next_word(fd) as usize;
-    if !read_part(fd, space, 0, doc) {
+pub(crate) fn read_record(file: &mut File, space: &mut [u8]) -> Record {
+    let doc = next_word(file) as usize;
+    if !read_part(file, space, 0, doc) {
         return no_record();
     }
-    let count = next_word(fd) as usize;
+    let count = next_word(file) as usize;
     if 1000000 < count {
         return no_record();
     }
     let len = 4 * count;
-    if !read_part(fd, space, doc, len) {
+    if !read_part(file, space, doc, len) {
         return no_record();
     }
     if 1000000 < doc {
@@ -68,11 +71,11 @@ pub(crate) fn read_record(fd: i32, space: &mut [u8]) -> Record {
 }
 
 // Reads the next record and judges its steps.
-fn replay_one(fd: i32, space: &mut [u8], t: Tally) -> Tally {
+fn replay_one(file: &mut File, out: Stdout, space: &mut [u8], t: Tally) -> Tally {
     if t.ended {
         return t;
     }
-    let r = read_record(fd, space);
+    let r = read_record(file, space);
     if r.ended {
         return tally::ended(t);
     }
@@ -85,26 +88,29 @@ fn replay_one(fd: i32, space: &mut [u8], t: Tally) -> Tally {
     if end < doc {
         return tally::ended(t);
     }
-    replay_steps(&space[start..doc], &space[doc..end], t)
+    replay_steps(out, &space[start..doc], &space[doc..end], t)
 }
 
 // The file has fewer records than this loop has turns.
-fn replay(fd: i32, space: &mut [u8]) -> Tally {
+fn replay(file: &mut File, out: Stdout, space: &mut [u8]) -> Tally {
     let mut t = tally::fresh();
     let mut i: u64 = 0;
     while i < 1000000 {
-        t = replay_one(fd, space, t);
+        t = replay_one(file, out, space, t);
         i += 1;
     }
     t
 }
 
-fn main() {
-    let fd = os::open_read(b"vectors.bin");
+fn main(rt: HostRuntime) -> Result<()> {
+    let mut file = File::open(&rt, "vectors.bin")?;
+    let out = rt.stdout();
     let mut space = [0u8; SPACE];
-    if os::arg_count() < 2 {
-        report(replay(fd, &mut space));
-        return;
+    let mut word = [0u8; 1];
+    if let Err(FillError::NotPresent) = rt.arg(1, &mut word) {
+        report(out, replay(&mut file, out, &mut space));
+        return Ok(());
     }
-    timed::run(fd, &mut space);
+    timed::run(&rt, &mut file, out, &mut space);
+    Ok(())
 }

@@ -1,6 +1,7 @@
 // The steps of one record.
 use crate::judge::{number_of, sees_bindings};
 use crate::tally::{Tally, counted, document, print, print_number, word};
+use std::io::Stdout;
 
 // A step: the kind of an item, the number that is due, and the item's place.
 #[derive(Clone, Copy)]
@@ -175,27 +176,28 @@ fn advance(
 }
 
 // Counts an item, and prints it where another number is due.
-fn note(t: Tally, s: Step, given: u32) -> Tally {
+fn note(out: Stdout, t: Tally, s: Step, given: u32) -> Tally {
     if s.kind < 4 {
         return t;
     }
     if given != s.due {
-        print(b"document ");
-        print_number(t.documents);
-        print(b", kind ");
-        print_number(s.kind);
-        print(b" at ");
-        print_number(s.at as u64);
-        print(b": due ");
-        print_number(s.due as u64);
-        print(b", answered ");
-        print_number(given as u64);
-        print(b"\n");
+        print(out, b"document ");
+        print_number(out, t.documents);
+        print(out, b", kind ");
+        print_number(out, s.kind);
+        print(out, b" at ");
+        print_number(out, s.at as u64);
+        print(out, b": due ");
+        print_number(out, s.due as u64);
+        print(out, b", answered ");
+        print_number(out, given as u64);
+        print(out, b"\n");
     }
     counted(t, s.due, given)
 }
 
 fn replay_with(
+    out: Stdout,
     doc: &[u8],
     steps: &[u8],
     names: &mut [usize],
@@ -212,18 +214,19 @@ fn replay_with(
         i += 1;
         let s = step_of(word_at(steps, at));
         state = advance(doc, s, names, enums, events, outputs, state);
-        t = note(t, s, state.given);
+        t = note(out, t, s, state.given);
     }
     t
 }
 
 // Judges every step.
-pub(crate) fn replay_steps(doc: &[u8], steps: &[u8], tally: Tally) -> Tally {
+pub(crate) fn replay_steps(out: Stdout, doc: &[u8], steps: &[u8], tally: Tally) -> Tally {
     let mut names = [0usize; 1658];
     let mut enums = [0usize; 2365];
     let mut events = [0usize; 512];
     let mut outputs = [0usize; 1022];
     replay_with(
+        out,
         doc,
         steps,
         &mut names,

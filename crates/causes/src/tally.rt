@@ -1,7 +1,8 @@
 // Counts of items, and the file's numbers.
 ghost use Rattle.std.specs.Prelude.{◌<◌};
 
-use libc::STDOUT_FILENO;
+use std::fs::File;
+use std::io::{Read, Stdout};
 
 // How many documents there were; how many items were found without a fault, with one, and otherwise than is due; and
 // whether the file has ended.
@@ -60,23 +61,24 @@ pub(crate) fn more(n: u64) -> u64 {
     n
 }
 
-pub(crate) fn print(text: &[u8]) {
-    io::write_all(STDOUT_FILENO, text);
+// What cannot be written is left out.
+pub(crate) fn print(out: Stdout, text: &[u8]) {
+    let _ = out.write_all(text);
 }
 
-pub(crate) fn print_number(n: u64) {
-    io::print_decimal(STDOUT_FILENO, n);
+pub(crate) fn print_number(out: Stdout, n: u64) {
+    let _ = out.print(n);
 }
 
-pub(crate) fn report(t: Tally) {
-    print_number(t.documents);
-    print(b" documents: ");
-    print_number(t.sound);
-    print(b" items without a fault, ");
-    print_number(t.faulty);
-    print(b" with one, ");
-    print_number(t.wrong);
-    print(b" answered otherwise\n");
+pub(crate) fn report(out: Stdout, t: Tally) {
+    print_number(out, t.documents);
+    print(out, b" documents: ");
+    print_number(out, t.sound);
+    print(out, b" items without a fault, ");
+    print_number(out, t.faulty);
+    print(out, b" with one, ");
+    print_number(out, t.wrong);
+    print(out, b" answered otherwise\n");
 }
 
 pub(crate) fn wide(b: u8) -> u64
@@ -91,9 +93,9 @@ pub(crate) fn word(a: u8, b: u8, c: u8, d: u8) -> u64 {
 }
 
 // The next four bytes of the file as a number; 2^32 at its end.
-pub(crate) fn next_word(fd: i32) -> u64 {
+pub(crate) fn next_word(file: &mut File) -> u64 {
     let mut b = [0u8; 4];
-    if io::read_full(fd, &mut b) == 4 {
+    if file.read_exact(&mut b).is_ok() {
         return word(b[0], b[1], b[2], b[3]);
     }
     4294967296

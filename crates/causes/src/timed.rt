@@ -5,6 +5,9 @@ use crate::steps::replay_steps;
 use crate::tally::{fresh, more, print, print_number, wide};
 use crate::{Record, read_record};
 use reading::Verdict;
+use std::env::Env;
+use std::fs::File;
+use std::io::Stdout;
 
 fn digit(b: u8) -> u64
     ensures { result < 10 }
@@ -32,16 +35,16 @@ fn number(digits: &[u8]) -> u64 {
 }
 
 // The second word, a number.
-fn times() -> u64 {
+fn times(rt: &impl Env) -> u64 {
     let mut b = [0u8; 16];
-    let n = os::arg(2, &mut b);
+    let n = rt.arg(2, &mut b).unwrap_or(0);
     number(&b[..n])
 }
 
 // Whether the first word begins with the byte.
-fn asked(byte: u8) -> bool {
+fn asked(rt: &impl Env, byte: u8) -> bool {
     let mut b = [0u8; 16];
-    os::arg(1, &mut b);
+    let _ = rt.arg(1, &mut b);
     b[0] == byte
 }
 
@@ -55,12 +58,12 @@ fn read_once(doc: &[u8]) -> u64 {
 }
 
 // How many items are answered otherwise than is due.
-fn type_once(doc: &[u8], steps: &[u8]) -> u64 {
-    let t = replay_steps(doc, steps, fresh());
+fn type_once(out: Stdout, doc: &[u8], steps: &[u8]) -> u64 {
+    let t = replay_steps(out, doc, steps, fresh());
     t.wrong
 }
 
-fn once(space: &[u8], r: Record, types: bool) -> u64 {
+fn once(out: Stdout, space: &[u8], r: Record, types: bool) -> u64 {
     let start = 0;
     let doc = r.doc;
     let end = r.end;
@@ -71,14 +74,14 @@ fn once(space: &[u8], r: Record, types: bool) -> u64 {
         return 1;
     }
     if types {
-        return type_once(&space[start..doc], &space[doc..end]);
+        return type_once(out, &space[start..doc], &space[doc..end]);
     }
     read_once(&space[start..doc])
 }
 
 // The first byte is changed by the answer, which is 0: no turn can be left out.
-fn turn(space: &mut [u8], r: Record, types: bool) -> u64 {
-    let answer = once(space, r, types);
+fn turn(out: Stdout, space: &mut [u8], r: Record, types: bool) -> u64 {
+    let answer = once(out, space, r, types);
     if 0 < space.len() {
         space[0] = ((wide(space[0]) + answer % 256) % 256) as u8;
     }
@@ -93,23 +96,23 @@ fn added(sum: u64, answer: u64) -> u64 {
 }
 
 // How many turns had another answer than 0.
-fn turns(space: &mut [u8], r: Record, types: bool, n: u64) -> u64 {
+fn turns(out: Stdout, space: &mut [u8], r: Record, types: bool, n: u64) -> u64 {
     let mut sum: u64 = 0;
     let mut i: u64 = 0;
     while i < n {
-        sum = added(sum, turn(space, r, types));
+        sum = added(sum, turn(out, space, r, types));
         i += 1;
     }
     sum
 }
 
-pub(crate) fn run(fd: i32, space: &mut [u8]) {
-    let n = times();
-    let types = asked(b't');
-    let r = read_record(fd, space);
-    let wrong = turns(space, r, types, n);
-    print_number(n);
-    print(b" times, ");
-    print_number(wrong);
-    print(b" answered otherwise\n");
+pub(crate) fn run(rt: &impl Env, file: &mut File, out: Stdout, space: &mut [u8]) {
+    let n = times(rt);
+    let types = asked(rt, b't');
+    let r = read_record(file, space);
+    let wrong = turns(out, space, r, types, n);
+    print_number(out, n);
+    print(out, b" times, ");
+    print_number(out, wrong);
+    print(out, b" answered otherwise\n");
 }

@@ -3,10 +3,12 @@ ghost use Rattle.std.specs.Prelude.{◌≡◌, ◌≤◌, length};
 
 use crate::module::{Reached, print_module};
 use crate::output::{print_page, put_counts};
+use std::io::Stdout;
 use text::Near;
 
 // The lines of one list, of errors or of warnings, into the page from a place on; where the next line starts.
 fn print_list<'a>(
+    out: Stdout,
     doc: &'a [u8],
     words: &'a [u32],
     all: usize,
@@ -36,7 +38,7 @@ fn print_list<'a>(
     };
     while done.next < all {
         done = print_module(
-            doc, words, all, warning, done, places, rows, table, enums, claims, page,
+            out, doc, words, all, warning, done, places, rows, table, enums, claims, page,
         );
     }
     done.at
@@ -44,6 +46,7 @@ fn print_list<'a>(
 
 // The lines of e errors and w warnings, and the last. Its frame is touched on entry, so it is called only where there is a finding.
 pub(crate) fn print_lists<'a>(
+    out: Stdout,
     doc: &'a [u8],
     errors: &'a [u32],
     e: usize,
@@ -61,6 +64,7 @@ pub(crate) fn print_lists<'a>(
     let mut claims = [0usize; 1020];
     let mut page = [0u8; 20480];
     let middle = print_list(
+        out,
         doc,
         errors,
         e,
@@ -74,6 +78,7 @@ pub(crate) fn print_lists<'a>(
         0,
     );
     let at = print_list(
+        out,
         doc,
         warnings,
         w,
@@ -87,5 +92,5 @@ pub(crate) fn print_lists<'a>(
         middle,
     );
     let end = put_counts(&mut page, at, e as u64, w as u64);
-    print_page(&page, end);
+    print_page(out, &page, end);
 }

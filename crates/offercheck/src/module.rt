@@ -7,6 +7,7 @@ ghost use Rattle.text.specs.Near.{KeptModule, PickedModule};
 use crate::line::{look_up_words, put_line, word_at};
 use crate::output::print_full;
 use findings::{Listed, Ready, name_module, open_module, states_of};
+use std::io::Stdout;
 use text::{Bound, Near, module_after, module_at};
 use typing::{Found, outgrows, word};
 
@@ -20,6 +21,7 @@ pub(crate) struct Reached {
 
 // The lines of the findings from the next on, as many as there are of the module whose number stands there and whose tables are filled.
 fn print_run<'a>(
+    out: Stdout,
     doc: &'a [u8],
     words: &'a [u32],
     all: usize,
@@ -66,7 +68,7 @@ fn print_run<'a>(
         );
         bound = done.bound;
         let end = done.end;
-        at = print_full(page, end);
+        at = print_full(out, page, end);
         i += 1;
     }
     Reached {
@@ -101,6 +103,7 @@ fn name_for<'a>(
 
 // The same, where the tables of names are yet to be filled.
 fn print_named<'a>(
+    out: Stdout,
     doc: &'a [u8],
     words: &'a [u32],
     all: usize,
@@ -128,12 +131,13 @@ fn print_named<'a>(
 {
     let known = name_for(doc, warning, places, table, enums, claims);
     print_run(
-        doc, words, all, warning, from, places, rows, count, known, table, enums, claims, page,
+        out, doc, words, all, warning, from, places, rows, count, known, table, enums, claims, page,
     )
 }
 
 // The same for module number k, which stands at a place, where the places of its fields and of its transitions' fields are filled.
 fn print_opened<'a>(
+    out: Stdout,
     doc: &'a [u8],
     words: &'a [u32],
     all: usize,
@@ -169,6 +173,7 @@ fn print_opened<'a>(
         near: module_after(doc, k, listed.end),
     };
     print_named(
+        out,
         doc,
         words,
         all,
@@ -186,6 +191,7 @@ fn print_opened<'a>(
 
 // The same, where they are not filled yet, with places that have room for some 7,900 variants of outputs.
 fn print_wide<'a>(
+    out: Stdout,
     doc: &'a [u8],
     words: &'a [u32],
     all: usize,
@@ -216,7 +222,8 @@ fn print_wide<'a>(
     let mut places = [0usize; 16384];
     let listed = open_module(doc, at, &mut places, rows);
     print_opened(
-        doc, words, all, warning, from, k, at, listed, &places, rows, table, enums, claims, page,
+        out, doc, words, all, warning, from, k, at, listed, &places, rows, table, enums, claims,
+        page,
     )
 }
 
@@ -231,6 +238,7 @@ fn needs_room(doc: &[u8], places: &[usize], warning: bool) -> bool {
 // The same with the places given. Where they have too little room it takes one turn less, and when none is left places of its own: that it calls itself
 // keeps the frame of `print_wide` out of its own.
 fn print_at<'a>(
+    out: Stdout,
     doc: &'a [u8],
     words: &'a [u32],
     all: usize,
@@ -263,12 +271,13 @@ fn print_at<'a>(
 {
     if turns == 0 {
         return print_wide(
-            doc, words, all, warning, from, k, at, rows, table, enums, claims, page,
+            out, doc, words, all, warning, from, k, at, rows, table, enums, claims, page,
         );
     }
     let listed = open_module(doc, at, places, rows);
     if needs_room(doc, places, warning) {
         return print_at(
+            out,
             doc,
             words,
             all,
@@ -286,7 +295,8 @@ fn print_at<'a>(
         );
     }
     print_opened(
-        doc, words, all, warning, from, k, at, listed, places, rows, table, enums, claims, page,
+        out, doc, words, all, warning, from, k, at, listed, places, rows, table, enums, claims,
+        page,
     )
 }
 
@@ -300,6 +310,7 @@ fn turns_for(warning: bool) -> u8 {
 
 // The same for any module; where there is none, the list is at its end.
 pub(crate) fn print_module<'a>(
+    out: Stdout,
     doc: &'a [u8],
     words: &'a [u32],
     all: usize,
@@ -337,6 +348,7 @@ pub(crate) fn print_module<'a>(
         };
     };
     print_at(
+        out,
         doc,
         words,
         all,

@@ -1,14 +1,16 @@
 // The numbers of a file, and what is printed.
 ghost use Rattle.std.specs.Prelude.{◌<◌};
 
-use libc::STDOUT_FILENO;
+use std::fs::File;
+use std::io::{Read, Stdout};
 
-pub(crate) fn print(text: &[u8]) {
-    io::write_all(STDOUT_FILENO, text);
+// What cannot be written is left out.
+pub(crate) fn print(out: Stdout, text: &[u8]) {
+    let _ = out.write_all(text);
 }
 
-pub(crate) fn print_number(n: u64) {
-    io::print_decimal(STDOUT_FILENO, n);
+pub(crate) fn print_number(out: Stdout, n: u64) {
+    let _ = out.print(n);
 }
 
 pub(crate) fn wide(b: u8) -> u64
@@ -31,28 +33,28 @@ pub(crate) fn more(n: u64) -> u64 {
 }
 
 // The next four bytes of the file as a number; 2^32 at its end.
-pub(crate) fn next_word(fd: i32) -> u64 {
+pub(crate) fn next_word(file: &mut File) -> u64 {
     let mut b = [0u8; 4];
-    if io::read_full(fd, &mut b) == 4 {
+    if file.read_exact(&mut b).is_ok() {
         return word(b[0], b[1], b[2], b[3]);
     }
     4294967296
 }
 
 // The next byte of the file; 256 at its end.
-pub(crate) fn next_byte(fd: i32) -> u64 {
+pub(crate) fn next_byte(file: &mut File) -> u64 {
     let mut b = [0u8; 1];
-    if io::read_full(fd, &mut b) == 1 {
+    if file.read_exact(&mut b).is_ok() {
         return wide(b[0]);
     }
     256
 }
 
 // Reads so many bytes to the front of the space; false where the file or the space ends before.
-pub(crate) fn read_front(fd: i32, space: &mut [u8], len: usize) -> bool {
+pub(crate) fn read_front(file: &mut File, space: &mut [u8], len: usize) -> bool {
     if space.len() < len {
         return false;
     }
     let start = 0;
-    io::read_full(fd, &mut space[start..len]) == len
+    file.read_exact(&mut space[start..len]).is_ok()
 }

@@ -3,6 +3,8 @@ ghost use Rattle.std.specs.Prelude.{◌<◌};
 
 use crate::file::{more, next_byte, next_word, print, print_number, read_front};
 use crate::sheet::{Due, findings_of, judge};
+use std::fs::File;
+use std::io::Stdout;
 
 // How many documents were accepted and refused as is due, and how many were not; how many findings there were; and whether
 // the file has ended.
@@ -60,28 +62,28 @@ fn with_right(t: Tally, due: Due) -> Tally {
     out
 }
 
-fn print_due(due: Due) {
-    print(b"otherwise than is due: ");
-    print_number(due.number);
-    print(b" with ");
-    print_number(due.first);
-    print(b" and ");
-    print_number(due.second);
-    print(b"\n");
+fn print_due(out: Stdout, due: Due) {
+    print(out, b"otherwise than is due: ");
+    print_number(out, due.number);
+    print(out, b" with ");
+    print_number(out, due.first);
+    print(out, b" and ");
+    print_number(out, due.second);
+    print(out, b"\n");
 }
 
-fn counted(t: Tally, due: Due, right: bool) -> Tally {
+fn counted(out: Stdout, t: Tally, due: Due, right: bool) -> Tally {
     if right {
         return with_right(t, due);
     }
-    print_due(due);
+    print_due(out, due);
     with_wrong(t)
 }
 
-fn next_due(fd: i32) -> Due {
-    let number = next_byte(fd);
-    let first = next_word(fd);
-    let second = next_word(fd);
+fn next_due(file: &mut File) -> Due {
+    let number = next_byte(file);
+    let first = next_word(file);
+    let second = next_word(file);
     Due {
         number,
         first,
@@ -90,11 +92,17 @@ fn next_due(fd: i32) -> Due {
 }
 
 // Judges the document with the findings that follow it.
-fn replay_findings<'a>(fd: i32, doc: &'a [u8], sheet: &mut [u32], t: Tally) -> Tally {
-    let due = next_due(fd);
+fn replay_findings<'a>(
+    file: &mut File,
+    out: Stdout,
+    doc: &'a [u8],
+    sheet: &mut [u32],
+    t: Tally,
+) -> Tally {
+    let due = next_due(file);
     let len = 6 * findings_of(due);
     let mut space = [0u8; 20000];
-    if !read_front(fd, &mut space, len) {
+    if !read_front(file, &mut space, len) {
         return ended(with_wrong(t));
     }
     let start = 0;
@@ -102,53 +110,58 @@ fn replay_findings<'a>(fd: i32, doc: &'a [u8], sheet: &mut [u32], t: Tally) -> T
         return ended(with_wrong(t));
     }
     let right = judge(doc, sheet, &space[start..len], due);
-    counted(t, due, right)
+    counted(out, t, due, right)
 }
 
 // Reads the next record and judges it.
-fn replay_one(fd: i32, space: &mut [u8], sheet: &mut [u32], t: Tally) -> Tally {
+fn replay_one(
+    file: &mut File,
+    out: Stdout,
+    space: &mut [u8],
+    sheet: &mut [u32],
+    t: Tally,
+) -> Tally {
     if t.ended {
         return t;
     }
-    let len = next_word(fd);
+    let len = next_word(file);
     if len == 4294967296 {
         return ended(t);
     }
     let end = len as usize;
-    if !read_front(fd, space, end) {
+    if !read_front(file, space, end) {
         return ended(with_wrong(t));
     }
     let start = 0;
     if space.len() < end {
         return ended(with_wrong(t));
     }
-    replay_findings(fd, &space[start..end], sheet, t)
+    replay_findings(file, out, &space[start..end], sheet, t)
 }
 
 // The file has fewer records than this loop has turns.
-fn replay(fd: i32, space: &mut [u8], sheet: &mut [u32]) -> Tally {
+fn replay(file: &mut File, out: Stdout, space: &mut [u8], sheet: &mut [u32]) -> Tally {
     let mut t = fresh();
     let mut i: u64 = 0;
     while i < 100000 {
-        t = replay_one(fd, space, sheet, t);
+        t = replay_one(file, out, space, sheet, t);
         i += 1;
     }
     t
 }
 
-fn report(t: Tally) {
-    print_number(t.accepted);
-    print(b" documents with ");
-    print_number(t.findings);
-    print(b" findings, ");
-    print_number(t.refused);
-    print(b" refused, ");
-    print_number(t.wrong);
-    print(b" answered otherwise\n");
+fn report(out: Stdout, t: Tally) {
+    print_number(out, t.accepted);
+    print(out, b" documents with ");
+    print_number(out, t.findings);
+    print(out, b" findings, ");
+    print_number(out, t.refused);
+    print(out, b" refused, ");
+    print_number(out, t.wrong);
+    print(out, b" answered otherwise\n");
 }
 
-pub(crate) fn run(space: &mut [u8]) {
-    let fd = os::open_read(b"findings.bin");
+pub(crate) fn run(file: &mut File, out: Stdout, space: &mut [u8]) {
     let mut sheet = [0u32; 16384];
-    report(replay(fd, space, &mut sheet));
+    report(out, replay(file, out, space, &mut sheet));
 }

@@ -41,9 +41,8 @@ pub(crate) fn past_number(due: &[u8], at: usize, n: u64) -> usize
     requires { at ≤ 1000000 }
     ensures { result ≤ 1000000 }
 {
-    let mut digits = [0u8; 20];
-    let len = io::decimal(n, &mut digits);
-    past(due, at, &digits[0..len])
+    let mut digits = itoa::Buffer::new();
+    past(due, at, digits.format(n).as_bytes())
 }
 
 fn past_mark(due: &[u8], at: usize, warning: bool) -> usize

@@ -9,6 +9,8 @@ mod messages;
 mod sheet;
 
 use file::{more, next_byte, next_word, print, print_number};
+use std::fs::File;
+use std::io::{Read, Result, Stdout};
 
 // A record's outcome.
 #[derive(Clone, Copy)]
@@ -22,14 +24,14 @@ enum Outcome {
     Wrong,
 }
 
-fn print_answer(number: u64, place: u64) {
-    print_number(number);
-    print(b" at ");
-    print_number(place);
+fn print_answer(out: Stdout, number: u64, place: u64) {
+    print_number(out, number);
+    print(out, b" at ");
+    print_number(out, place);
 }
 
 // Whether the document is answered as is due.
-fn judge(doc: &[u8], number: u64, place: u64) -> Outcome {
+fn judge(out: Stdout, doc: &[u8], number: u64, place: u64) -> Outcome {
     let mut at: u64 = 0;
     let given = offer::offer_read(doc, &mut at) as u64;
     if given == number {
@@ -40,17 +42,17 @@ fn judge(doc: &[u8], number: u64, place: u64) -> Outcome {
             return Outcome::Refused;
         }
     }
-    print(b"due ");
-    print_answer(number, place);
-    print(b", answered ");
-    print_answer(given, at);
-    print(b"\n");
+    print(out, b"due ");
+    print_answer(out, number, place);
+    print(out, b", answered ");
+    print_answer(out, given, at);
+    print(out, b"\n");
     Outcome::Wrong
 }
 
 // Reads the next record and judges it.
-fn replay_one(fd: i32, space: &mut [u8]) -> Outcome {
-    let len = next_word(fd);
+fn replay_one(file: &mut File, out: Stdout, space: &mut [u8]) -> Outcome {
+    let len = next_word(file);
     if len == 4294967296 {
         return Outcome::End;
     }
@@ -59,10 +61,10 @@ fn replay_one(fd: i32, space: &mut [u8]) -> Outcome {
     if space.len() < end {
         return Outcome::Wrong;
     }
-    if io::read_full(fd, &mut space[start..end]) == end {
-        let number = next_byte(fd);
-        let place = next_word(fd);
-        return judge(&space[start..end], number, place);
+    if file.read_exact(&mut space[start..end]).is_ok() {
+        let number = next_byte(file);
+        let place = next_word(file);
+        return judge(out, &space[start..end], number, place);
     }
     Outcome::Wrong
 }
@@ -105,15 +107,15 @@ fn counted(t: Tally, outcome: Outcome) -> Tally {
     }
 }
 
-fn turn(fd: i32, space: &mut [u8], t: Tally) -> Tally {
+fn turn(file: &mut File, out: Stdout, space: &mut [u8], t: Tally) -> Tally {
     if t.ended {
         return t;
     }
-    counted(t, replay_one(fd, space))
+    counted(t, replay_one(file, out, space))
 }
 
 // The file has fewer records than this loop has turns.
-fn replay(fd: i32, space: &mut [u8]) -> Tally {
+fn replay(file: &mut File, out: Stdout, space: &mut [u8]) -> Tally {
     let mut t = Tally {
         accepted: 0,
         refused: 0,
@@ -122,25 +124,29 @@ fn replay(fd: i32, space: &mut [u8]) -> Tally {
     };
     let mut i: u64 = 0;
     while i < 100000 {
-        t = turn(fd, space, t);
+        t = turn(file, out, space, t);
         i += 1;
     }
     t
 }
 
-fn report(t: Tally) {
-    print_number(t.accepted);
-    print(b" accepted, ");
-    print_number(t.refused);
-    print(b" refused, ");
-    print_number(t.wrong);
-    print(b" answered otherwise\n");
+fn report(out: Stdout, t: Tally) {
+    print_number(out, t.accepted);
+    print(out, b" accepted, ");
+    print_number(out, t.refused);
+    print(out, b" refused, ");
+    print_number(out, t.wrong);
+    print(out, b" answered otherwise\n");
 }
 
-fn main() {
-    let fd = os::open_read(b"vectors.bin");
+fn main(rt: HostRuntime) -> Result<()> {
+    let mut vectors = File::open(&rt, "vectors.bin")?;
+    let out = rt.stdout();
     let mut space = [0u8; 70000];
-    report(replay(fd, &mut space));
-    findings::run(&mut space);
-    messages::run(&mut space);
+    report(out, replay(&mut vectors, out, &mut space));
+    let mut sheets = File::open(&rt, "findings.bin")?;
+    findings::run(&mut sheets, out, &mut space);
+    let mut texts = File::open(&rt, "messages.bin")?;
+    messages::run(&mut texts, out, &mut space);
+    Ok(())
 }

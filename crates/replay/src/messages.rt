@@ -1,6 +1,8 @@
 // Replays data/messages.bin: each record has a document, and all that is to be printed for it, as the original Rust gives it.
 use crate::file::{more, next_word, print, print_number, read_front};
 use crate::lines::as_due;
+use std::fs::File;
+use std::io::Stdout;
 
 // How many documents were answered as is due and otherwise, and whether the file has ended.
 #[derive(Clone, Copy)]
@@ -27,10 +29,10 @@ fn counted(t: Tally, right: bool) -> Tally {
 }
 
 // Judges the document with what is to be printed for it, which follows it.
-fn replay_lines(fd: i32, doc: &[u8], t: Tally) -> Tally {
+fn replay_lines(file: &mut File, doc: &[u8], t: Tally) -> Tally {
     let mut space = [0u8; 8192];
-    let len = next_word(fd) as usize;
-    if !read_front(fd, &mut space, len) {
+    let len = next_word(file) as usize;
+    if !read_front(file, &mut space, len) {
         return ended(counted(t, false));
     }
     if 8192 < len {
@@ -41,26 +43,26 @@ fn replay_lines(fd: i32, doc: &[u8], t: Tally) -> Tally {
 }
 
 // Reads the next record and judges it.
-fn replay_one(fd: i32, space: &mut [u8], t: Tally) -> Tally {
+fn replay_one(file: &mut File, space: &mut [u8], t: Tally) -> Tally {
     if t.ended {
         return t;
     }
-    let len = next_word(fd);
+    let len = next_word(file);
     if len == 4294967296 {
         return ended(t);
     }
     let end = len as usize;
-    if !read_front(fd, space, end) {
+    if !read_front(file, space, end) {
         return ended(counted(t, false));
     }
     if space.len() < end {
         return ended(counted(t, false));
     }
-    replay_lines(fd, &space[0..end], t)
+    replay_lines(file, &space[0..end], t)
 }
 
 // The file has fewer records than this loop has turns.
-fn replay(fd: i32, space: &mut [u8]) -> Tally {
+fn replay(file: &mut File, space: &mut [u8]) -> Tally {
     let mut t = Tally {
         right: 0,
         wrong: 0,
@@ -68,17 +70,16 @@ fn replay(fd: i32, space: &mut [u8]) -> Tally {
     };
     let mut i: u64 = 0;
     while i < 100000 {
-        t = replay_one(fd, space, t);
+        t = replay_one(file, space, t);
         i += 1;
     }
     t
 }
 
-pub(crate) fn run(space: &mut [u8]) {
-    let fd = os::open_read(b"messages.bin");
-    let t = replay(fd, space);
-    print_number(t.right);
-    print(b" documents with all that is printed, ");
-    print_number(t.wrong);
-    print(b" answered otherwise\n");
+pub(crate) fn run(file: &mut File, out: Stdout, space: &mut [u8]) {
+    let t = replay(file, space);
+    print_number(out, t.right);
+    print(out, b" documents with all that is printed, ");
+    print_number(out, t.wrong);
+    print(out, b" answered otherwise\n");
 }

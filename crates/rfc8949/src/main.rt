@@ -2,25 +2,28 @@
 // A head of a major type that no item of a document has is refused whatever is due; the line says so.
 #![tactic(auto)]
 
-use libc::STDOUT_FILENO;
 use reading::{Answer, Cursor, Fault, Head};
+use std::fs::File;
+use std::io::{Read, Result, Stdout};
 
-fn print(text: &[u8]) {
-    io::write_all(STDOUT_FILENO, text);
+// What cannot be written is left out.
+fn print(out: Stdout, text: &[u8]) {
+    let _ = out.write_all(text);
 }
 
-fn print_number(n: u64) {
-    io::print_decimal(STDOUT_FILENO, n);
+fn print_number(out: Stdout, n: u64) {
+    let _ = out.print(n);
 }
 
 fn wide(b: u8) -> u64 {
     b as u64
 }
 
-fn print_bytes(bytes: &[u8]) {
+fn print_bytes(out: Stdout, bytes: &[u8]) {
     let mut i = 0;
     while i < bytes.len() {
-        io::print_hex(STDOUT_FILENO, wide(bytes[i]), 2);
+        let b = wide(bytes[i]);
+        let _ = print!(out; "{b:02x}");
         i += 1;
     }
 }
@@ -40,11 +43,11 @@ fn fault_number(fault: Fault) -> u64 {
     }
 }
 
-fn print_refusal(fault: Fault, place: usize) {
-    print(b"refused ");
-    print_number(fault_number(fault));
-    print(b" at ");
-    print_number(place as u64);
+fn print_refusal(out: Stdout, fault: Fault, place: usize) {
+    print(out, b"refused ");
+    print_number(out, fault_number(fault));
+    print(out, b" at ");
+    print_number(out, place as u64);
 }
 
 // The refusal of the item at the start where the major type is due.
@@ -54,7 +57,7 @@ fn refusal(bytes: &[u8], due: u8) -> Answer {
 }
 
 // The refusal that a number, a string, an array, and a bool or null all meet; nothing where one of them is there.
-fn print_kinds(bytes: &[u8]) {
+fn print_kinds(out: Stdout, bytes: &[u8]) {
     let a = refusal(bytes, 0);
     let Answer::Refused(fault, place) = a else {
         return;
@@ -71,24 +74,24 @@ fn print_kinds(bytes: &[u8]) {
     let Answer::Refused(_, _) = d else {
         return;
     };
-    print(b"; no kind of a document: ");
-    print_refusal(fault, place);
+    print(out, b"; no kind of a document: ");
+    print_refusal(out, fault, place);
 }
 
-fn print_head(bytes: &[u8]) {
+fn print_head(out: Stdout, bytes: &[u8]) {
     let h = reading::head_from(bytes, 0);
     match h {
         Head::Item(major, argument, next) => {
-            print(b"major type ");
-            print_number(major as u64);
-            print(b", argument ");
-            print_number(argument);
-            print(b", ");
-            print_number(next.at as u64);
-            print(b" bytes");
-            print_kinds(bytes);
+            print(out, b"major type ");
+            print_number(out, major as u64);
+            print(out, b", argument ");
+            print_number(out, argument);
+            print(out, b", ");
+            print_number(out, next.at as u64);
+            print(out, b" bytes");
+            print_kinds(out, bytes);
         }
-        Head::Refused(fault, place) => print_refusal(fault, place),
+        Head::Refused(fault, place) => print_refusal(out, fault, place),
     }
 }
 
@@ -97,46 +100,47 @@ fn size(b: u8) -> usize {
 }
 
 // The length of the next example; 1,000 at the end of the file.
-fn next_length(fd: i32) -> usize {
+fn next_length(file: &mut File) -> usize {
     let mut len = [0u8; 1];
-    if io::read_full(fd, &mut len) == 1 {
+    if file.read_exact(&mut len).is_ok() {
         return size(len[0]);
     }
     1000
 }
 
-fn show(bytes: &[u8]) {
-    print_bytes(bytes);
-    print(b": ");
-    print_head(bytes);
-    print(b"\n");
+fn show(out: Stdout, bytes: &[u8]) {
+    print_bytes(out, bytes);
+    print(out, b": ");
+    print_head(out, bytes);
+    print(out, b"\n");
 }
 
 // Reads one example and shows what its head is; false at the end of the file.
-fn example(fd: i32, space: &mut [u8]) -> bool {
+fn example(file: &mut File, out: Stdout, space: &mut [u8]) -> bool {
     let start = 0;
-    let end = next_length(fd);
+    let end = next_length(file);
     if space.len() < end {
         return false;
     }
-    io::read_full(fd, &mut space[start..end]);
-    show(&space[start..end]);
+    let _ = file.read_exact(&mut space[start..end]);
+    show(out, &space[start..end]);
     true
 }
 
 // There are fewer examples than turns.
-fn examples(fd: i32, space: &mut [u8]) {
+fn examples(file: &mut File, out: Stdout, space: &mut [u8]) {
     let mut i: u64 = 0;
     while i < 200 {
-        if !example(fd, space) {
+        if !example(file, out, space) {
             return;
         }
         i += 1;
     }
 }
 
-fn main() {
-    let fd = os::open_read(b"examples.bin");
+fn main(rt: HostRuntime) -> Result<()> {
+    let mut file = File::open(&rt, "examples.bin")?;
     let mut space = [0u8; 64];
-    examples(fd, &mut space);
+    examples(&mut file, rt.stdout(), &mut space);
+    Ok(())
 }
