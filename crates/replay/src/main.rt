@@ -3,7 +3,7 @@
 #![tactic(auto)]
 
 mod file;
-mod findings;
+mod found;
 mod lines;
 mod messages;
 mod sheet;
@@ -145,7 +145,7 @@ fn main(rt: HostRuntime) -> Result<()> {
     let mut space = [0u8; 70000];
     report(out, replay(&mut vectors, out, &mut space));
     let mut sheets = File::open(&rt, "findings.bin")?;
-    findings::run(&mut sheets, out, &mut space);
+    found::run(&mut sheets, out, &mut space);
     let mut texts = File::open(&rt, "messages.bin")?;
     messages::run(&mut texts, out, &mut space);
     Ok(())
