@@ -1,6 +1,6 @@
 -- A guard's clash is the first equality whose value differs from that of the first of its name: the list of those seen
 -- has under each name what the equalities so far have.
-use mathlib.Core.Path.{◌≡◌, refl, sym, ap, ◌∙◌}
+use mathlib.Core.Path.{◌≡◌, refl, sym, ap, subst, ◌∙◌}
 use mathlib.Core.Bool.{Bool, true, false}
 use mathlib.Core.List.{List, [], ◌∷◌, ◌++◌, append_assoc}
 use mathlib.Core.Option.{Option, none, some}
@@ -63,7 +63,7 @@ module _ (es : List Expr) (rest : Judged es) (seen done : List Equality) (same :
 
   judged : (o : Option Equality) → first_called name_in x.name seen ≡ o → against (λ now. clashes now es) seen x o ≡ first_clash (done ++ (x ∷ equalities es)) (x ∷ equalities es)
   unfolding against first_clash differs first_of pick
-  judged none e = rw (first_seen, e, eq-eqb x.value x.value refl, after) (rest (x ∷ seen) (done ++ (x ∷ [])) (new_seen seen done same x e))
+  judged none e = rw (first_seen, e, eq-eqb x.value x.value refl) (subst (λ (z : List Equality). clashes (x ∷ seen) es ≡ first_clash z (equalities es)) (sym after) (rest (x ∷ seen) (done ++ (x ∷ [])) (new_seen seen done same x e)))
   judged (some p) e = rw (first_seen, e) (go (eqb p.value x.value) refl)
     where
       go : (t : Bool) → eqb p.value x.value ≡ t → against (λ now. clashes now es) seen x (some p) ≡ first_of (differs x (some p)) (first_clash (done ++ (x ∷ equalities es)) (equalities es))

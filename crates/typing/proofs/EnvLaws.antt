@@ -290,3 +290,4 @@ unbound_agree s names enums [] env none_bound g z = record {
   enums = g.enums;
   variants = g.variants;
 }
+unbound_agree s names enums (_ ∷ _) env x5 g z = elim x5 [ ]

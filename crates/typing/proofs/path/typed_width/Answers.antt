@@ -1,0 +1,14 @@
+-- By the number that stands there.
+use native.Mathlib.Omega.{arith}
+use Rattle.typing.proofs.PathLaws.{typed_width_none, typed_width_is}
+use Rattle.typing.proofs.TableLaws.{width_small}
+use Rattle.typing.proofs.path.typed_width.Goals as goal
+
+pub returns-in_default : goal.returns-in_default
+returns-in_default c = search typed_width_none
+
+pub overflow_cast-result : goal.overflow_cast-result
+overflow_cast-result c = omega (arith, width_small _ _ c.number-r.ensures c.in-Got.is)
+
+pub returns : goal.returns
+returns c = search typed_width_is

@@ -1,0 +1,12 @@
+-- The words that are left decide; one whose marks have not the name's is passed over.
+use Prim.Native.Nat.{◌+◌, ◌≤◌}
+use mathlib.Core.Path.{◌≡◌}
+use lib.ListN.{length}
+use Rattle.typing.specs.Segments.{among}
+use Rattle.typing.proofs.segments.in_words.Given as goal
+
+abbrev pub invariant-loop-left : goal.invariant-loop-left
+invariant-loop-left l = (l.q + l.left ≤ length l.table) × (among l.left l.doc l.name l.m l.table l.q ≡ among l.many l.doc l.name l.m l.table l.q)
+
+abbrev pub decreases-loop-left : goal.decreases-loop-left
+decreases-loop-left l = l.left

@@ -1,0 +1,10 @@
+-- By where the skip ends.
+use Rattle.typing.proofs.TableLaws.{after_to, after_out}
+use native.Mathlib.Omega.{arith}
+use Rattle.typing.proofs.table.after_any.Goals as goal
+
+pub returns-in-To : goal.returns-in-To
+returns-in-To c = record { is = search after_to; each = λ i. omega (arith, c.type_inv.doc i) }
+
+pub returns-in-Refused : goal.returns-in-Refused
+returns-in-Refused c = record { is = search after_out; each = λ i. omega (arith, c.type_inv.doc i) }

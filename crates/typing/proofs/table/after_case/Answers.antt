@@ -1,0 +1,6 @@
+-- By where a short data enum ends.
+use Rattle.typing.proofs.ShortLaws.{stops_past}
+use Rattle.typing.proofs.table.after_case.Goals as goal
+
+pub returns-in-At : goal.returns-in-At
+returns-in-At c = search stops_past
