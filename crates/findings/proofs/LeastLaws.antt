@@ -1,6 +1,6 @@
 -- Names in byte order: none comes before the least, and names of which nothing is given may be left out.
 use Prim.Native.Nat.{ℕ, zero, suc, ◌≤◌}
-use mathlib.Core.Path.{◌≡◌, refl, sym, ap, ap₂}
+use mathlib.Core.Path.{◌≡◌, refl, sym, ap, ap₂, subst}
 use mathlib.Core.Logic.{⊎_elim}
 use mathlib.Core.List.Memᴰ
 use mathlib.Core.List.{List, [], ◌∷◌, ◌++◌, Memᴰ}
@@ -118,7 +118,7 @@ module _ {B : Type 0} (f : Name → List B) where
         let w = least x xs in
         let z = s.some_of (least y ys) (mem_member (least_mem y ys)) in
         let q = not_either (least y ys) w (none_before (member_mem (least y ys) (x ∷ xs) z)) (none_before m) in
-        rw q (ap (λ (l : List B). f w ++ l) (next k (without w (y ∷ ys)) (omega (arith, without_lt m)) (kept_without w (without w (y ∷ ys)) (λ v. member_without v w (y ∷ ys)) s)))
+        subst (λ (z : Name). each f (ordered (suc n) (x ∷ xs)) ≡ f z ++ each f (ordered k (without z (y ∷ ys)))) (sym q) (ap (λ (l : List B). f w ++ l) (next k (without w (y ∷ ys)) (omega (arith, without_lt m)) (kept_without w (without w (y ∷ ys)) (λ v. member_without v w (y ∷ ys)) s)))
 
     skims_more : Skims (suc n) (x ∷ xs)
     skims_more k ys b s =

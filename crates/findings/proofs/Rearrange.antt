@@ -1,7 +1,7 @@
 -- A document of which one module is rearranged: the findings of that module are the same once places are renamed, and there are as many
 -- errors and as many warnings.
 use Prim.Native.Nat.{ℕ, zero, suc, ◌+◌, ◌<◌}
-use mathlib.Core.Path.{◌≡◌, refl, sym, ap, ap₂, ◌∙◌}
+use mathlib.Core.Path.{◌≡◌, refl, sym, ap, ap₂, ◌∙◌, subst}
 use mathlib.Core.List.{List, [], ◌∷◌, ◌++◌, map, map-append, append-nil, Permᴰ}
 use mathlib.Core.Option.{some}
 use mathlib.Core.Bool.{Bool, true, false, cond}
@@ -52,8 +52,9 @@ module _ (f : Module → List Note) where
       ∙ ap₂ ◌++◌ (of_module_named k k (f z) ∙ ap (λ b. cond b (map (in_module k) (f z)) []) (eq-eqb k k refl)) (of_module_later k (suc k) ms (omega arith))
       ∙ append-nil _)
   of_module_here k (suc i) (z ∷ ms) y e =
+      let s : suc k + i ≡ k + suc i = omega arith in
       each_append _ (map (in_module k) (f z)) (noting (suc k) ms)
-      ∙ ap₂ ◌++◌ (of_module_named (k + suc i) k (f z) ∙ ap (λ b. cond b (map (in_module k) (f z)) []) (ne_eqb k (k + suc i) (λ p. omega arith))) (rw (add-suc, ← suc-add) (of_module_here (suc k) i ms y e))
+      ∙ ap₂ ◌++◌ (of_module_named (k + suc i) k (f z) ∙ ap (λ b. cond b (map (in_module k) (f z)) []) (ne_eqb k (k + suc i) (λ p. omega arith))) (subst (λ (n : ℕ). of_module n (noting (suc k) ms) ≡ map (in_module n) (f y)) s (of_module_here (suc k) i ms y e))
 
   of_module_by_module : (ms : List Module) (m : ℕ) (y : Module) → get_elem? ms m ≡ some y → of_module m (by_module f ms) ≡ map (in_module m) (f y)
   unfolding by_module

@@ -1,0 +1,12 @@
+-- By what its lane has.
+use Rattle.findings.proofs.OnceLaws.{mark_room, mark_found, mark_none}
+use Rattle.findings.proofs.once.is_marked.Goals as goal
+
+pub bounds-own-j : goal.bounds-own-j
+bounds-own-j c = search mark_room
+
+pub returns-in-At : goal.returns-in-At
+returns-in-At c = search mark_found
+
+pub returns-in-Nothing : goal.returns-in-Nothing
+returns-in-Nothing c = search mark_none
