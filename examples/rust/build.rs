@@ -1,4 +1,4 @@
-//! Links the archive that `tools/archive` writes.
+//! Links the archive that tools/archive writes.
 
 fn main() {
     let root = std::env::var("CARGO_MANIFEST_DIR").expect("cargo sets it");
