@@ -1,0 +1,11 @@
+-- By whether there is one; its variable stands after its head.
+use Rattle.text.proofs.SetLaws.{set_none}
+use Rattle.text.proofs.PieceLaws.{puts_none}
+use Rattle.text.proofs.ListedLaws.{set_put}
+use Rattle.text.proofs.listed.put_set.Goals as goal
+
+pub returns-in_default-clause-puts_said : goal.returns-in_default-clause-puts_said
+returns-in_default-clause-puts_said c = puts_none (search set_none)
+
+pub returns-clause-puts_said : goal.returns-clause-puts_said
+returns-clause-puts_said c = search set_put
