@@ -1,17 +1,16 @@
 -- A variant is used by a transition exactly when it is among the names that patterns of its group give, or one gives none and the first
 -- group has it; and a note for each that is not, group by group.
-use Prim.Native.Nat.{ℕ, zero, suc, ◌+◌, ◌-◌, ◌*◌, ◌/◌, ◌<◌, ◌≤◌}
+use Prim.Native.Nat.{ℕ, suc, ◌+◌, ◌-◌, ◌*◌, ◌/◌, ◌<◌, ◌≤◌}
 use mathlib.Core.Path.{◌≡◌, refl, sym, ap, subst, ◌∙◌}
 use mathlib.Core.Bool.{Bool, true, false, cond, not, ◌&&◌, ◌||◌}
 use mathlib.Core.List.{List, [], ◌∷◌, ◌++◌, map}
 use mathlib.Core.Option.{Option, none, some}
 use native.Mathlib.Omega.{arith}
-use lib.ListN.{length, get_or, get_elem?, take}
+use lib.ListN.{length, get_or, take}
 use Rattle.reading.specs.Read.{pick}
 use Rattle.reading.specs.Limits.{max_list}
 use Rattle.reading.specs.Item.{read_count}
 use Rattle.reading.specs.Text.{Name}
-use Rattle.reading.specs.Combine.{list_of}
 use Rattle.reading.specs.Decl.{ConstructorGroup, read_constructor_variant}
 use Rattle.reading.specs.Pattern.{PatternVariant}
 use Rattle.reading.specs.Transition.{Transition}
@@ -26,7 +25,6 @@ use Rattle.typing.specs.Names.{eq_name, member, first_called}
 use Rattle.typing.specs.Patterns.{declared_name, pattern_variant_name}
 use Rattle.typing.specs.Table.{after_tag, Past}
 use Rattle.typing.specs.declared.table.Found.{Found}
-use Rattle.typing.specs.declared.table.Found.TheVariants.{At, Nothing}
 use Rattle.typing.proofs.EnvLaws.{after_is}
 use Rattle.typing.proofs.FirstLaws.{variant_text}
 use Rattle.findings.specs.Lists.{Placed, placed, any, each}

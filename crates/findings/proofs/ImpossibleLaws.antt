@@ -9,7 +9,6 @@ use lib.ListN.{length, get_or}
 use lib.Dec.{eqb}
 use Rattle.reading.specs.Read.{ok}
 use Rattle.reading.specs.Expr.{Expr}
-use Rattle.reading.specs.Combine.{optional}
 use Rattle.reading.specs.Transition.{Transition, read_top_expr}
 use Rattle.typing.specs.Env.{given}
 use Rattle.typing.specs.Holds.{clash_of, LiteralFalse, Contradicts}

@@ -16,8 +16,7 @@ use Rattle.reading.proofs.Walks.{name_text}
 use Rattle.typing.specs.Names.{eq_name}
 use Rattle.typing.specs.Lanes.{print}
 use Rattle.typing.proofs.NameLaws.{eq_name_eq}
-use Rattle.reading.specs.Transition.{Transition}
-use Rattle.findings.specs.Scene.{field, RowAt}
+use Rattle.findings.specs.Scene.{field}
 use Rattle.findings.specs.PairPromises.{LeadsTo, LeadsOn}
 use Rattle.findings.specs.Reaching.{Taken, free, Queued, Stepped, stays, takes, Swept, Chained, first, next, Walked, BeginsAt}
 use Rattle.findings.proofs.TouchLaws.{last_or_before}

@@ -40,7 +40,6 @@ use Rattle.typing.proofs.TableLaws.{tag_out}
 use Rattle.typing.proofs.LaneLaws.{lane_small, lane_apart}
 use Rattle.typing.proofs.EnvLaws.{entry, after_is}
 use Rattle.typing.proofs.TypeLaws.{fields_are}
-use Rattle.findings.specs.Lists.{each}
 use Rattle.findings.specs.Mentions.{sole_name, collect_names}
 use Rattle.findings.specs.Touch.{var_at, Touched, AllMarked, VarTouched, Touches, TouchesExpr, TouchesUnary, TouchesBinary}
 

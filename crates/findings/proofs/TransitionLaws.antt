@@ -5,7 +5,7 @@ use mathlib.Core.List.{List, [], ◌∷◌}
 use mathlib.Core.Option.{Option, none, some}
 use native.Mathlib.Omega.{arith}
 use lib.ListN.{length, take}
-use lib.Seq.{sets, length-sets, take-take, length-take-le}
+use lib.Seq.{length-sets, take-take, length-take-le}
 use Rattle.reading.specs.Read.{Reader, ok}
 use Rattle.reading.specs.Module.{Module}
 use Rattle.reading.specs.Transition.{Transition}

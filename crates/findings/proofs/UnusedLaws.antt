@@ -26,7 +26,7 @@ use Rattle.typing.specs.Names.{member}
 use Rattle.typing.specs.Table.{pairs_from, pairs_of, pairs_at, Filled}
 use Rattle.typing.proofs.TableLaws.{pairs_length}
 use Rattle.typing.proofs.EnvLaws.{entry, after_is, fields_head}
-use Rattle.findings.specs.Lists.{Placed, each}
+use Rattle.findings.specs.Lists.{Placed}
 use Rattle.findings.specs.Finding.{Note, note, noted}
 use Rattle.findings.specs.Mentions.{all_touched}
 use Rattle.findings.specs.Warnings.{unused}

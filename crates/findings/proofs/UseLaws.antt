@@ -36,7 +36,6 @@ use Rattle.typing.specs.declared.table.Found.TheVariants.{At, Nothing}
 use Rattle.typing.proofs.EnvLaws.{after_is, fields_head}
 use Rattle.typing.proofs.FirstLaws.{found_no, found_yes}
 use Rattle.typing.proofs.NameLaws.{eq_name_eq}
-use Rattle.findings.specs.Lists.{each}
 use Rattle.findings.specs.Scene.{Reads, field, Rows}
 use Rattle.findings.specs.Classes.{Tabled}
 use Rattle.findings.specs.Uses.{variant_names, is_bare, pattern_names, pattern_bare, named_by, bare_by, used_by, NamesAt, VariantsAt, variants_here, variants_none, AddsVariant, AddsUse, GroupPrint, NextMarked, UsesOf, HasVariant, IsUsed}

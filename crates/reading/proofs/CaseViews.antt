@@ -4,14 +4,13 @@ use mathlib.Core.Path.{◌≡◌, sym, subst}
 use mathlib.Core.List.{List}
 use Rattle.reading.specs.Read.{Reader, ok}
 use Rattle.reading.specs.Item.{read_tag}
-use Rattle.reading.specs.Combine.{nothing, ◌then◌, Cases, row, enum_of}
+use Rattle.reading.specs.Combine.{nothing, Cases, row, enum_of}
 use Rattle.reading.specs.Expr.{expr_cases, read_expr}
 use Rattle.reading.specs.Decl.{ty_cases, read_ty, constructor_variant_cases, read_constructor_variant}
 use Rattle.reading.specs.Pattern.{pattern_expr_cases, read_pattern_expr, pattern_variant_cases, read_pattern_variant}
 use Rattle.reading.specs.Formula.{formula_cases, read_formula}
 use Rattle.reading.specs.Views.{EnumAt, ExprAt, int_expr, bool_expr, path_expr, unary_expr, binary_expr, TyAt, bool_ty, bit_ty, enum_ty, ConstructorVariantAt, unit_variant, struct_variant, PatternExprAt, wildcard_pattern, bind_pattern, int_pattern, bool_pattern, path_pattern, PatternVariantAt, unit_pattern, struct_pattern, FormulaAt, input_formula, output_formula, expr_formula, not_formula, and_formula, or_formula, implies_formula, next_formula, always_formula, bounded_always_formula, bounded_eventually_formula, eventually_formula, until_formula}
 use Rattle.reading.specs.declared.item.Tag.{Tag}
-use Rattle.reading.proofs.Rules.{no}
 use Rattle.reading.proofs.Gives.{Gives, gives_bind}
 use Rattle.reading.proofs.Views.{both}
 use Rattle.reading.proofs.EnumLaws.{row_gives, none_gives}

@@ -6,7 +6,7 @@ use mathlib.Core.Bool.{Bool, true, false}
 use native.Mathlib.Omega.{arith}
 use lib.Dec.{eqb, ltb, lit<, T}
 use borrow.Author.Tests.{eqb-true, eq-eqb, ne_eqb}
-use Rattle.reading.specs.Read.{Reader, ok, refused}
+use Rattle.reading.specs.Read.{Reader, ok}
 use Rattle.reading.specs.Item.{read_tag}
 use Rattle.reading.specs.Combine.{Cases, sized, row, unknown, enum_of}
 use Rattle.reading.specs.Encode.{enc_head, enc_case}

@@ -5,7 +5,7 @@ use mathlib.Core.List.{List}
 use mathlib.Core.Bool.{Bool, true, false}
 use native.Mathlib.Omega.{arith}
 use borrow.Author.Tests.{ltb-true, ltb-false, eqb-true, lt-ltb, le-ltb, eq-eqb}
-use Rattle.reading.specs.Read.{ok, refused}
+use Rattle.reading.specs.Read.{ok}
 use Rattle.reading.specs.Limits.{max_u64}
 use Rattle.reading.specs.Item.{read_kind, read_number, read_case, read_bool, read_fields, read_count, read_tag}
 use Rattle.reading.specs.Encode.{enc_head, enc_bool}

@@ -15,7 +15,7 @@ use Rattle.reading.proofs.At.{At, at_join, at_split, at_nil}
 use Rattle.reading.proofs.HeadSound.{Bytes}
 use Rattle.reading.proofs.Blames.{Blames, Inner, blames_ok, blames_bind, blames_map}
 use Rattle.reading.proofs.Items.{items_join, array_item}
-use Rattle.reading.proofs.Formats.{Laws, of}
+use Rattle.reading.proofs.Formats.{Laws}
 use Rattle.reading.proofs.ItemLaws.{kind_sound, count_kind, count_complete, count_blames}
 
 -- a list: an array of its entries

@@ -21,7 +21,7 @@ use Rattle.reading.proofs.Gives.{gives_ok, gives_pick, gives_map}
 use Rattle.reading.proofs.At.{At, at_byte, at_first}
 use Rattle.reading.proofs.Blames.{Inner, blames_ok, blames_pick, blames_map}
 use Rattle.reading.proofs.Items.{plain_item}
-use Rattle.reading.proofs.Formats.{Is, Laws, of}
+use Rattle.reading.proofs.Formats.{Is, Laws}
 
 -- null is no item of another kind
 pub Solid : {A : Type 0} → Reader A → Type 0

@@ -8,7 +8,7 @@ use Rattle.reading.specs.Limits.{max_u64}
 use Rattle.reading.specs.Combine.{nothing, ◌then◌, record_of}
 use Rattle.reading.specs.Encode.{enc_head, enc_record, ◌&◌}
 use Rattle.reading.specs.Items.{Items, none as no_item}
-use Rattle.reading.proofs.Rules.{no, bind_ok, map_ok}
+use Rattle.reading.proofs.Rules.{bind_ok, map_ok}
 use Rattle.reading.proofs.Gives.{gives_ok, gives_bind, gives_map}
 use Rattle.reading.proofs.At.{At, at_join, at_split, at_nil}
 use Rattle.reading.proofs.Blames.{Inner, blames_ok, blames_bind, blames_map}

@@ -33,7 +33,7 @@ use Rattle.text.specs.Says.{Entry, entry_here, entry_none, Picked, WithStates, v
 use Rattle.text.specs.declared.said.Arg.TheVariants.{Blank, Name as NameAt}
 use Rattle.text.specs.declared.said.Said.{Said}
 use Rattle.text.specs.declared.said.Said.TheVariants.{Nothing, Line}
-use Rattle.text.proofs.EntryReads.{entry_picked, entry_nothing, entry_given}
+use Rattle.text.proofs.EntryReads.{entry_picked}
 use Rattle.text.proofs.NamedLaws.{name_said, missing_said, entry_said}
 
 -- a State variant

@@ -4,23 +4,20 @@ use mathlib.Core.Path.{◌≡◌, refl, sym, ap, subst, ◌∙◌}
 use mathlib.Core.Bool.{Bool, true, false}
 use mathlib.Core.List.{List}
 use mathlib.Core.Option.{Option, none, some}
-use native.Mathlib.Omega.{arith}
 use lib.ListN.{get_or}
 use lib.Dec.{eqb}
 use borrow.Author.Tests.{eq-eqb, ne_eqb}
 use Rattle.reading.specs.Read.{Reader, ok}
-use Rattle.reading.specs.Limits.{max_list}
-use Rattle.reading.specs.Combine.{list_of, optional}
+use Rattle.reading.specs.Combine.{optional}
 use Rattle.reading.specs.Text.{read_name}
 use Rattle.reading.specs.Decl.{FieldDecl, EnumDecl, read_names, read_ty, read_field_decl, read_enum_decl}
 use Rattle.reading.specs.Pattern.{PatternField, PatternVariant, Pattern, read_pattern_expr, read_pattern_field, read_pattern_variant, read_pattern}
 use Rattle.reading.specs.Skip.{text_at}
 use Rattle.reading.specs.Views.{OptionAt, absent, present, PatternVariantAt, unit_pattern, struct_pattern}
 use Rattle.reading.proofs.Rules.{no}
-use Rattle.reading.proofs.ListLaws.{list_laws}
 use Rattle.reading.proofs.OptionLaws.{option_laws}
 use Rattle.reading.proofs.ExprLaws.{name_laws, name_solid}
-use Rattle.reading.proofs.DeclLaws.{names_laws, ty_laws, constructor_variant_laws}
+use Rattle.reading.proofs.DeclLaws.{names_laws, ty_laws}
 use Rattle.reading.proofs.PatternLaws.{pattern_expr_laws}
 use Rattle.reading.proofs.Views.{field_decl_at, enum_decl_at, pattern_field_at, pattern_at}
 use Rattle.reading.proofs.CaseViews.{pattern_variant_at}

@@ -1,5 +1,5 @@
 -- A guard's equalities in one pass: those seen so far, one of each name, stand in a table as pairs of the place of a name and its value.
-use Rattle.std.specs.Prelude.{ℕ, zero, suc, ◌+◌, ◌*◌, ◌≡◌, List, [], ◌∷◌, ◌++◌, length, get_or}
+use Rattle.std.specs.Prelude.{ℕ, zero, suc, ◌+◌, ◌*◌, ◌≡◌, List, [], ◌∷◌, ◌++◌, get_or}
 use Rattle.std.proofs.Math.Option.{Option, none, some}
 use Rattle.reading.specs.Read.{ok}
 use Rattle.reading.specs.Expr.{Expr, read_expr}

@@ -1,5 +1,4 @@
 use mathlib.Core.Path.{refl}
-use mathlib.Core.Logic.{⊎_elim}
 use native.Mathlib.Omega.{arith}
 use Rattle.findings.proofs.StateTurns.{state_start, state_more, state_skip, state_done}
 use Rattle.findings.proofs.by_state.note_of_state.Goals as goal
@@ -9,9 +8,10 @@ pub loop-i-init : goal.loop-i-init
 loop-i-init c = (search state_start, omega arith, omega arith, refl)
 
 pub loop-i-preserved : goal.loop-i-preserved
-loop-i-preserved c = elim c.if-prints-k.branch
-    [ then-prints-k w ↦ (search state_more, omega arith, omega arith, omega (arith, w.m-is))
-    | else-prints-k w ↦ (search state_skip, omega arith, omega arith, omega (arith, w.m-is)) ]
+loop-i-preserved c = elim c.if-prints-k.branch [
+  | then-prints-k w ↦ (search state_more, omega arith, omega arith, omega (arith, w.m-is))
+  | else-prints-k w ↦ (search state_skip, omega arith, omega arith, omega (arith, w.m-is))
+]
 
 pub returns-clause-notes_of_state : goal.returns-clause-notes_of_state
 returns-clause-notes_of_state c = search state_done

@@ -1,4 +1,3 @@
-use mathlib.Core.Logic.{⊎_elim}
 use native.Mathlib.Omega.{arith}
 use borrow.Author.Rules.{rules}
 use Rattle.findings.proofs.ClassLaws.{passed_start, passed_all}
@@ -13,9 +12,10 @@ pub returns-then-same_guard : goal.returns-then-same_guard
 returns-then-same_guard c = guard_found_lem _ _ _ _ (search rules) c.same_guard.ensures c.if-same_guard.true (omega arith)
 
 pub loop-j-preserved : goal.loop-j-preserved
-loop-j-preserved c = elim c.if-marks-j.branch
-    [ then-marks-j+else-same_guard w ↦ search guard_other
-    | else-marks-j w ↦ search guard_skip ]
+loop-j-preserved c = elim c.if-marks-j.branch [
+  | then-marks-j+else-same_guard w ↦ search guard_other
+  | else-marks-j w ↦ search guard_skip
+]
 
 pub returns : goal.returns
 returns c = search passed_all

@@ -1,4 +1,3 @@
-use mathlib.Core.Logic.{⊎_elim}
 use Rattle.findings.proofs.ClassLaws.{passed_start, passed_all}
 use Rattle.findings.proofs.FirstLaws.{kind_skip, kind_other, kind_found}
 use Rattle.findings.proofs.classes.first_kind.Goals as goal
@@ -11,9 +10,10 @@ pub returns-then-same_kind : goal.returns-then-same_kind
 returns-then-same_kind c = search kind_found
 
 pub loop-j-preserved : goal.loop-j-preserved
-loop-j-preserved c = elim c.if-prints-k.branch
-    [ then-prints-k+else-same_kind w ↦ search kind_other
-    | else-prints-k w ↦ search kind_skip ]
+loop-j-preserved c = elim c.if-prints-k.branch [
+  | then-prints-k+else-same_kind w ↦ search kind_other
+  | else-prints-k w ↦ search kind_skip
+]
 
 pub returns : goal.returns
 returns c = search passed_all

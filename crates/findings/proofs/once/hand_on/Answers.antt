@@ -1,4 +1,3 @@
-use mathlib.Core.Logic.{⊎_elim}
 use native.Mathlib.Omega.{arith}
 use borrow.Author.Rules.{rules}
 use Rattle.findings.proofs.OnceLaws.{handed_start, handed_hit, handed_miss, handed_all}
@@ -21,9 +20,10 @@ pub loop-k-preserved : goal.loop-k-preserved
 loop-k-preserved c =
     let e = c.is_marked.ensures in
     let g = c.loop-k.invariant.1 in
-    elim c.if-is_marked.branch
-    [ then-is_marked w ↦ (omega arith, rw w.marks-is (handed_hit _ _ _ _ _ _ g e (omega arith) w.if-is_marked.true))
-    | else-is_marked w ↦ (omega arith, rw w.marks-is (handed_miss _ _ _ _ _ _ g e w.if-is_marked.false)) ]
+    elim c.if-is_marked.branch [
+      | then-is_marked w ↦ (omega arith, rw w.marks-is (handed_hit _ _ _ _ _ _ g e (omega arith) w.if-is_marked.true))
+      | else-is_marked w ↦ (omega arith, rw w.marks-is (handed_miss _ _ _ _ _ _ g e w.if-is_marked.false))
+    ]
 
 pub returns : goal.returns
 returns c = handed_all _ _ _ _ _ _ c.loop-k.invariant.1 (omega arith) (λ h. omega arith)

@@ -1,4 +1,3 @@
-use mathlib.Core.Logic.{⊎_elim}
 use native.Mathlib.Omega.{arith}
 use borrow.Author.Rules.{rules}
 use Rattle.findings.proofs.OrderLaws.{mark_start, mark_skip, mark_other, mark_here, mark_done}
@@ -9,10 +8,11 @@ pub loop-j-init : goal.loop-j-init
 loop-j-init c = mark_start _ _ _ _ _ _ (omega arith) (search rules)
 
 pub loop-j-preserved : goal.loop-j-preserved
-loop-j-preserved c = elim c.if-prints-k.branch
-    [ then-prints-k+then-same_fields w ↦ rw w.done-is (search mark_here)
-    | then-prints-k+else-same_fields w ↦ rw w.done-is (search mark_other)
-    | else-prints-k w ↦ rw w.done-is (search mark_skip) ]
+loop-j-preserved c = elim c.if-prints-k.branch [
+  | then-prints-k+then-same_fields w ↦ rw w.done-is (search mark_here)
+  | then-prints-k+else-same_fields w ↦ rw w.done-is (search mark_other)
+  | else-prints-k w ↦ rw w.done-is (search mark_skip)
+]
 
 pub returns : goal.returns
 returns c = search mark_done

@@ -1,4 +1,3 @@
-use mathlib.Core.Logic.{⊎_elim}
 use native.Mathlib.Omega.{arith}
 use Rattle.findings.proofs.RivalLaws.{pairs_start, pairs_skip, pairs_more, pairs_found, pairs_none}
 use Rattle.findings.proofs.pairs.no_pairs.Goals as goal
@@ -17,9 +16,10 @@ pub returns-then-has_rival : goal.returns-then-has_rival
 returns-then-has_rival c = search pairs_found
 
 pub loop-i-preserved : goal.loop-i-preserved
-loop-i-preserved c = elim c.if-seen-w-ne0.branch
-    [ then-seen-w-ne0+else-has_rival w ↦ search pairs_more
-    | else-seen-w-ne0 w ↦ search pairs_skip ]
+loop-i-preserved c = elim c.if-seen-w-ne0.branch [
+  | then-seen-w-ne0+else-has_rival w ↦ search pairs_more
+  | else-seen-w-ne0 w ↦ search pairs_skip
+]
 
 pub returns : goal.returns
 returns c = search pairs_none

@@ -1,6 +1,5 @@
 -- The tables, then both walks.
 use borrow.Author.Rules.{rules}
-use native.Mathlib.Omega.{arith}
 use Rattle.findings.proofs.ModuleLaws.{named_walked}
 use Rattle.findings.proofs.whole.walk_named.Goals as goal
 

@@ -1,6 +1,5 @@
 -- The places and the prints, then the walks.
 use borrow.Author.Rules.{rules}
-use native.Mathlib.Omega.{arith}
 use Rattle.findings.proofs.whole.walk_wide.Goals as goal
 
 pub open_printed-listed-requires-clause-in_bounds : goal.open_printed-listed-requires-clause-in_bounds

@@ -1,6 +1,5 @@
 use mathlib.Core.Path.{refl, sym, ◌∙◌}
 use borrow.Author.Rules.{rules}
-use Rattle.reading.specs.Text.{name_byte}
 use Rattle.reading.proofs.Strings.{all_step, all_fail, all_done}
 use Rattle.reading.proofs.text.all_name_bytes.Goals as goal
 

@@ -1,4 +1,3 @@
-use native.Mathlib.Omega.{arith}
 use Rattle.text.proofs.PutLaws.{put_none, put_is, ◌then◌}
 use Rattle.text.proofs.DecimalLaws.{digits_none, digits_one, digits_more}
 use Rattle.text.proofs.decimal.+put_digits.Goals as goal

@@ -10,5 +10,8 @@ returns-then-count-eq0 c = record { put = put_is (list_none _ _ _ c.if-count-eq0
 
 pub returns : goal.returns
 returns c =
-    record { put = put_is (list_some _ _ _ c.if-count-eq0.false c.after_name.ensures)
-          (c.put_bytes-a.ensures then c.put_quoted-b.ensures.put then c.put_more-c.ensures.put then c.put_bytes-2.ensures); upper_bound = omega (arith, c.put_bytes-a.ensures.next, c.put_quoted-b.ensures.upper_bound, c.put_more-c.ensures.upper_bound, c.put_bytes-2.ensures.next, c.requires.2) }
+    record {
+      put = put_is (list_some _ _ _ c.if-count-eq0.false c.after_name.ensures)
+          (c.put_bytes-a.ensures then c.put_quoted-b.ensures.put then c.put_more-c.ensures.put then c.put_bytes-2.ensures);
+      upper_bound = omega (arith, c.put_bytes-a.ensures.next, c.put_quoted-b.ensures.upper_bound, c.put_more-c.ensures.upper_bound, c.put_bytes-2.ensures.next, c.requires.2);
+    }

@@ -1,4 +1,3 @@
-use mathlib.Core.Logic.{⊎_elim}
 use Rattle.typing.proofs.EntryLaws.{scan_start}
 use Rattle.typing.proofs.FirstLaws.{first_done, variant_hit, variant_miss, variant_passed}
 use Rattle.typing.proofs.first.first_variant.Goals as goal

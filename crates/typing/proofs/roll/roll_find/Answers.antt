@@ -1,4 +1,3 @@
-use mathlib.Core.Logic.{⊎_elim}
 use native.Mathlib.Omega.{arith}
 use Rattle.typing.proofs.RollLaws.{find_out, find_empty, find_wide, left_start, left_unprinted, left_miss, left_hit, left_done, within_none, within_at}
 use Rattle.typing.proofs.roll.roll_find.Goals as goal
@@ -33,9 +32,10 @@ returns-then-same-clause-within_table c = within_at _ _ _ (omega arith)
 
 pub loop-i-preserved : goal.loop-i-preserved
 loop-i-preserved c =
-    elim c.if-table-o.branch
-    [ then-table-o+else-same w ↦ left_miss _ _ _ _ _ _ c.loop-i.invariant c.loop-i-test.true w.name_at.ensures w.text_at.ensures w.same.ensures w.if-same.false
-    | else-table-o w ↦ left_unprinted _ _ _ _ _ _ c.loop-i.invariant c.loop-i-test.true c.factor.ensures c.print_by-p.ensures w.if-table-o.false ]
+    elim c.if-table-o.branch [
+      | then-table-o+else-same w ↦ left_miss _ _ _ _ _ _ c.loop-i.invariant c.loop-i-test.true w.name_at.ensures w.text_at.ensures w.same.ensures w.if-same.false
+      | else-table-o w ↦ left_unprinted _ _ _ _ _ _ c.loop-i.invariant c.loop-i-test.true c.factor.ensures c.print_by-p.ensures w.if-table-o.false
+    ]
 
 pub returns-clause-finds_on : goal.returns-clause-finds_on
 returns-clause-finds_on c = search left_done

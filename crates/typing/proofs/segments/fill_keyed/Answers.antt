@@ -1,7 +1,6 @@
 use mathlib.Core.Path.{refl}
 use native.Mathlib.Omega.{arith}
 use borrow.Author.Rules.{rules}
-use borrow.Author.Tests.{not-false}
 use Rattle.typing.proofs.SegmentLaws.{fills_then, fills_all, fills_still, keyed_none, keyed_at}
 use Rattle.typing.proofs.segments.fill_keyed.Goals as goal
 

@@ -1,4 +1,3 @@
-use mathlib.Core.Logic.{⊎_elim}
 use native.Mathlib.Omega.{arith}
 use Rattle.typing.proofs.SegmentLaws.{packs_small, fill_start, fill_stops, fill_more, fill_done}
 use Rattle.typing.proofs.segments.fill_words.Goals as goal

@@ -1,4 +1,3 @@
-use mathlib.Core.Logic.{⊎_elim}
 use Rattle.typing.proofs.SegmentLaws.{word_start, named_none, named_hit, named_miss, named_other}
 use Rattle.typing.proofs.segments.in_word.Goals as goal
 use Rattle.typing.proofs.segments.in_word.Goals.{then-rest-m+else-same, else-rest-m}

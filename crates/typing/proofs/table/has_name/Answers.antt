@@ -1,4 +1,3 @@
-use mathlib.Core.Logic.{⊎_elim}
 use Rattle.typing.proofs.TableLaws.{names_open, name_hit, name_miss, name_passed, name_none}
 use Rattle.typing.proofs.table.has_name.Goals as goal
 use Rattle.typing.proofs.table.has_name.Goals.{in-At, in-Nothing+else-same}
