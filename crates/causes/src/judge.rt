@@ -1,79 +1,108 @@
 // What the typing layer says of one item, as a number: document 01's number of its cause, and 0 where nothing is wrong.
 use reading::text_at;
-use typing::{Clash, Ty, Typed};
+use typing::Typed;
+
+// What an item of a step is. The first four are a module's lists; a pattern's bindings hold for the guards, sets and emits that
+// follow it.
+#[derive(Clone, Copy, Debug, PartialEq, Eq)]
+pub(crate) enum Kind {
+    Enums,
+    Vars,
+    Events,
+    Outputs,
+    Init,
+    Pattern,
+    Guard,
+    Set,
+    Emit,
+    OnErrorEmit,
+    Property,
+    Assumption,
+    // Of these 1 is due where the original gives the site, else 0: a guard that has a type, a version string, a formula's bounds,
+    // and of a guard that it is false and that it contradicts itself.
+    NoBool,
+    Version,
+    Bound,
+    AlwaysFalse,
+    Contradiction,
+}
+
+// The kinds by their numbers in a record.
+const KINDS: [Kind; 17] = [
+    Kind::Enums,
+    Kind::Vars,
+    Kind::Events,
+    Kind::Outputs,
+    Kind::Init,
+    Kind::Pattern,
+    Kind::Guard,
+    Kind::Set,
+    Kind::Emit,
+    Kind::OnErrorEmit,
+    Kind::Property,
+    Kind::Assumption,
+    Kind::NoBool,
+    Kind::Version,
+    Kind::Bound,
+    Kind::AlwaysFalse,
+    Kind::Contradiction,
+];
+
+impl Kind {
+    pub(crate) fn of(number: u8) -> Option<Kind> {
+        KINDS.get(usize::from(number)).copied()
+    }
+
+    // Whether the item is in the scope of a pattern's bindings.
+    pub(crate) fn sees_bindings(self) -> bool {
+        matches!(self, Kind::Guard | Kind::Set | Kind::Emit | Kind::NoBool)
+    }
+}
 
 // A type has no cause.
 fn typed_number(doc: &[u8], t: Typed) -> u32 {
     match t {
-        Typed::Is(_, _) => 0,
-        Typed::Fails(cause) => typing::cause_number(doc, cause),
+        Ok(_) => 0,
+        Err(cause) => typing::cause_number(doc, cause),
     }
 }
 
-// 1 for a type that is not bool.
-fn no_bool(t: Typed) -> u32 {
-    match t {
-        Typed::Is(ty, _) => match ty {
-            Ty::Bool => 0,
-            Ty::Bit(_) => 1,
-            Ty::IntLit => 1,
-            Ty::State => 1,
-            Ty::Enum(_) => 1,
-        },
-        Typed::Fails(_) => 0,
-    }
+// Whether an expression has a type that is not bool.
+fn is_no_bool(doc: &[u8], t: Typed) -> bool {
+    t.is_ok_and(|(ty, _)| !typing::is_bool(doc, ty))
 }
 
-fn clash_number(c: Clash) -> u32 {
-    match c {
-        Clash::Nothing => 0,
-        Clash::Found(_, _, _) => 1,
-    }
+// Whether a guard contradicts itself.
+fn contradicts(doc: &[u8], at: usize) -> bool {
+    let end = typing::after_expr(doc, at, 32);
+    typing::contradictory_equalities(doc, at, end, 32).is_some()
 }
 
-fn one_if(given: bool) -> u32 {
-    if given {
-        return 1;
-    }
-    0
-}
-
-// Whether the items of the kind are in the scope of a pattern's bindings.
-pub(crate) fn sees_bindings(kind: u64) -> bool {
-    match kind {
-        6..=8 => true,
-        12 => true,
-        _ => false,
-    }
-}
-
-// The item of the kind at a place, by the tables of outputs, of the names it sees and of the enums.
-pub(crate) fn number_of<'a>(
-    doc: &'a [u8],
-    kind: u64,
+// The item of the kind at a place, by the tables of outputs, of the names it sees and of the enums; 255 for what is judged otherwise.
+pub(crate) fn number_of(
+    doc: &[u8],
+    kind: Kind,
     at: usize,
-    outputs: &'a [usize],
-    names: &'a [usize],
-    enums: &'a [usize],
+    outputs: &[usize],
+    names: &[usize],
+    enums: &[usize],
 ) -> u32 {
     match kind {
-        4 => typed_number(doc, typing::type_expr(doc, at, 32, names, enums)),
-        6..=7 => typed_number(doc, typing::type_expr(doc, at, 32, names, enums)),
-        8..=9 => typing::blame_number(
+        Kind::Init | Kind::Guard | Kind::Set => {
+            typed_number(doc, typing::type_expr(doc, at, 32, names, enums))
+        }
+        Kind::Emit | Kind::OnErrorEmit => typing::blame_number(
             doc,
             typing::validate_output_expr(doc, at, outputs, names, enums),
         ),
-        10..=11 => typing::fit_number(doc, typing::type_formula(doc, at, 32, names, enums)),
-        12 => no_bool(typing::type_expr(doc, at, 32, names, enums)),
-        13 => one_if(!typing::is_valid_version_format(text_at(doc, at))),
-        14 => one_if(typing::bounded_always_error(doc, at, 32)),
-        15 => one_if(typing::is_literal_false(doc, at, 32)),
-        16 => clash_number(typing::contradictory_equalities(
-            doc,
-            at,
-            typing::after_expr(doc, at, 32),
-            32,
-        )),
-        _ => 255,
+        Kind::Property | Kind::Assumption => {
+            typing::fit_number(doc, typing::type_formula(doc, at, 32, names, enums))
+        }
+        Kind::NoBool => is_no_bool(doc, typing::type_expr(doc, at, 32, names, enums)).into(),
+        Kind::Version => (!typing::is_valid_version_format(text_at(doc, at))).into(),
+        Kind::Bound => typing::bounded_always_error(doc, at, 32).into(),
+        Kind::AlwaysFalse => typing::is_literal_false(doc, at, 32).into(),
+        Kind::Contradiction => contradicts(doc, at).into(),
+        Kind::Enums | Kind::Vars | Kind::Events | Kind::Outputs | Kind::Pattern => 255,
     }
 }

@@ -1,238 +1,128 @@
 // The steps of one record.
-use crate::judge::{number_of, sees_bindings};
-use crate::tally::{Tally, counted, document, print, print_number, word};
+use crate::judge::{Kind, number_of};
+use crate::tally::Tally;
+use std::fmt;
 use std::io::Stdout;
 
-// A step: the kind of an item, the number that is due, and the item's place.
+// The words of a block of names.
+const BLOCK: usize = 829;
+
+// A step: the number of an item's kind, the number that is due, and the item's place.
 #[derive(Clone, Copy)]
 struct Step {
-    kind: u64,
-    due: u32,
-    at: usize,
+    kind: u8,
+    due: u8,
+    at: u16,
 }
 
-// How many words of the tables are filled with groups of events, and with the blocks of variables and bindings; and the number that was given
-// last.
-#[derive(Clone, Copy)]
-struct State {
-    events: usize,
-    bound: usize,
-    given: u32,
-}
-
-fn start() -> State {
-    State {
-        events: 0,
-        bound: 829,
-        given: 0,
+impl From<[u8; 4]> for Step {
+    fn from(bytes: [u8; 4]) -> Step {
+        let [kind, due, low, high] = bytes;
+        Step {
+            kind,
+            due,
+            at: u16::from_le_bytes([low, high]),
+        }
     }
 }
 
-fn step_of(w: u64) -> Step {
-    Step {
-        kind: w % 256,
-        due: (w / 256 % 256) as u32,
-        at: (w / 65536 % 65536) as usize,
+impl fmt::Display for Step {
+    fn fmt<W: fmt::Write>(&self, f: &mut fmt::Formatter<W>) -> fmt::Result {
+        let Step { kind, due, at } = *self;
+        write!(f, "kind {kind} at {at}: due {due}")
     }
 }
 
-// The word that starts at a place; 0 where it does not end in the slice.
-fn word_at(s: &[u8], at: usize) -> u64 {
-    if s.len() <= at {
-        return 0;
-    }
-    if s.len() - at < 4 {
-        return 0;
-    }
-    word(s[at], s[at + 1], s[at + 2], s[at + 3])
+// The tables of a module: names in a block of variables and, where a pattern has bindings, one of these; enums; groups of events, in so
+// many words; and outputs.
+#[derive(Drop)]
+struct Tables {
+    names: [usize; 2 * BLOCK],
+    binds: bool,
+    enums: [usize; 2365],
+    events: [usize; 512],
+    event_words: usize,
+    outputs: [usize; 1022],
 }
 
-// Fills the first block of a table of names, where it has one.
-fn fill_first(doc: &[u8], at: usize, table: &mut [usize]) {
-    if 829 <= table.len() {
-        typing::fill_block(doc, at, table);
+impl Tables {
+    // Goes through the pattern at a place; the number of its cause.
+    fn bind(&mut self, doc: &[u8], at: usize) -> u32 {
+        let Some(events) = self.events.get(..self.event_words) else {
+            return 255;
+        };
+        let b = typing::validate_event_pattern(doc, at, events, &mut self.names, BLOCK);
+        self.binds = 0 < b.words && b.words <= 510;
+        if self.binds {
+            typing::weave(doc, &mut self.names, BLOCK, b.words / 2);
+        }
+        typing::blame_number(doc, b.blame)
+    }
+
+    // The number of the item of the kind at a place, with the names it sees.
+    fn ask(&self, doc: &[u8], kind: Kind, at: usize) -> u32 {
+        let seen = if kind.sees_bindings() && self.binds {
+            2 * BLOCK
+        } else {
+            BLOCK
+        };
+        number_of(
+            doc,
+            kind,
+            at,
+            &self.outputs,
+            &self.names[..seen],
+            &self.enums,
+        )
+    }
+
+    // Takes one of the module's lists, or judges an item: its number.
+    fn advance(&mut self, doc: &[u8], kind: Kind, at: usize) -> Option<u32> {
+        match kind {
+            Kind::Enums => typing::fill_enums(doc, at, &mut self.enums),
+            Kind::Vars => {
+                typing::fill_block(doc, at, &mut self.names);
+                self.binds = false;
+            }
+            Kind::Events => self.event_words = typing::fill_table(doc, at, &mut self.events),
+            Kind::Outputs => typing::fill_outputs(doc, at, &mut self.outputs),
+            Kind::Pattern => return Some(self.bind(doc, at)),
+            _ => return Some(self.ask(doc, kind, at)),
+        }
+        None
+    }
+
+    // The number that is given for a step; 255 for one of no kind, none for a list.
+    fn number(&mut self, doc: &[u8], step: Step) -> Option<u32> {
+        let Some(kind) = Kind::of(step.kind) else {
+            return Some(255);
+        };
+        self.advance(doc, kind, usize::from(step.at))
     }
 }
 
-// Fills the first block of a table of enums, where it has one.
-fn fill_first_enums(doc: &[u8], at: usize, table: &mut [usize]) {
-    if 829 <= table.len() {
-        typing::fill_enums(doc, at, table);
+// Judges every step, and prints each that is answered otherwise than is due.
+pub(crate) fn replay_steps(out: Stdout, doc: &[u8], steps: &[u8], tally: &mut Tally) {
+    tally.count_document();
+    let mut tables = Tables {
+        names: [0; 2 * BLOCK],
+        binds: false,
+        enums: [0; 2365],
+        events: [0; 512],
+        event_words: 0,
+        outputs: [0; 1022],
+    };
+    let (steps, _) = steps.as_chunks::<4>();
+    for bytes in steps {
+        let step = Step::from(*bytes);
+        let Some(given) = tables.number(doc, step) else {
+            continue;
+        };
+        let due = u32::from(step.due);
+        if given != due {
+            let documents = tally.documents;
+            let _ = println!(out; "document {documents}, {step}, answered {given}");
+        }
+        tally.count(due, given);
     }
-}
-
-// Fills a table of outputs, where it has room for a list of groups.
-fn fill_first_outputs(doc: &[u8], at: usize, table: &mut [usize]) {
-    if 511 <= table.len() {
-        typing::fill_outputs(doc, at, table);
-    }
-}
-
-// One of a module's lists.
-fn set_up(
-    doc: &[u8],
-    s: Step,
-    names: &mut [usize],
-    enums: &mut [usize],
-    events: &mut [usize],
-    outputs: &mut [usize],
-    t: State,
-) -> State {
-    let kind = s.kind;
-    let at = s.at;
-    let mut out = t;
-    if kind == 0 {
-        fill_first_enums(doc, at, enums);
-        return out;
-    }
-    if kind == 1 {
-        fill_first(doc, at, names);
-        out.bound = 829;
-        return out;
-    }
-    if kind == 2 {
-        out.events = typing::fill_table(doc, at, events);
-        return out;
-    }
-    fill_first_outputs(doc, at, outputs);
-    out
-}
-
-// Puts so many words of bindings in the second block on their lanes; the words of both blocks.
-fn bound_to(doc: &[u8], names: &mut [usize], words: usize) -> usize {
-    if words == 0 {
-        return 829;
-    }
-    if names.len() < 1658 {
-        return 829;
-    }
-    if 510 < words {
-        return 829;
-    }
-    typing::weave(doc, names, 829, words / 2);
-    1658
-}
-
-// A pattern: its bindings stand in the second block.
-fn bind<'a>(doc: &'a [u8], s: Step, names: &mut [usize], events: &'a [usize], t: State) -> State {
-    let mut out = t;
-    let start = 0;
-    let e = t.events;
-    if events.len() < e {
-        out.given = 255;
-        return out;
-    }
-    let b = typing::validate_event_pattern(doc, s.at, &events[start..e], names, 829);
-    let blame = b.blame;
-    out.bound = bound_to(doc, names, b.words);
-    out.given = typing::blame_number(doc, blame);
-    out
-}
-
-// How many words of the names an item of the kind sees.
-fn seen(kind: u64, t: State) -> usize {
-    if sees_bindings(kind) {
-        return t.bound;
-    }
-    829
-}
-
-// Any other item, with the names it sees; 255 where the tables have too few words.
-fn ask<'a>(
-    doc: &'a [u8],
-    s: Step,
-    names: &'a [usize],
-    enums: &'a [usize],
-    outputs: &'a [usize],
-    t: State,
-) -> u32 {
-    let kind = s.kind;
-    let start = 0;
-    let n = seen(kind, t);
-    if names.len() < n {
-        return 255;
-    }
-    number_of(doc, kind, s.at, outputs, &names[start..n], enums)
-}
-
-fn advance(
-    doc: &[u8],
-    s: Step,
-    names: &mut [usize],
-    enums: &mut [usize],
-    events: &mut [usize],
-    outputs: &mut [usize],
-    t: State,
-) -> State {
-    if s.kind < 4 {
-        return set_up(doc, s, names, enums, events, outputs, t);
-    }
-    if s.kind == 5 {
-        return bind(doc, s, names, events, t);
-    }
-    let mut out = t;
-    out.given = ask(doc, s, names, enums, outputs, t);
-    out
-}
-
-// Counts an item, and prints it where another number is due.
-fn note(out: Stdout, t: Tally, s: Step, given: u32) -> Tally {
-    if s.kind < 4 {
-        return t;
-    }
-    if given != s.due {
-        print(out, b"document ");
-        print_number(out, t.documents);
-        print(out, b", kind ");
-        print_number(out, s.kind);
-        print(out, b" at ");
-        print_number(out, s.at as u64);
-        print(out, b": due ");
-        print_number(out, s.due as u64);
-        print(out, b", answered ");
-        print_number(out, given as u64);
-        print(out, b"\n");
-    }
-    counted(t, s.due, given)
-}
-
-fn replay_with(
-    out: Stdout,
-    doc: &[u8],
-    steps: &[u8],
-    names: &mut [usize],
-    enums: &mut [usize],
-    events: &mut [usize],
-    outputs: &mut [usize],
-    tally: Tally,
-) -> Tally {
-    let mut t = tally;
-    let mut state = start();
-    let mut i: usize = 0;
-    while i < steps.len() / 4 {
-        let at = 4 * i;
-        i += 1;
-        let s = step_of(word_at(steps, at));
-        state = advance(doc, s, names, enums, events, outputs, state);
-        t = note(out, t, s, state.given);
-    }
-    t
-}
-
-// Judges every step.
-pub(crate) fn replay_steps(out: Stdout, doc: &[u8], steps: &[u8], tally: Tally) -> Tally {
-    let mut names = [0usize; 1658];
-    let mut enums = [0usize; 2365];
-    let mut events = [0usize; 512];
-    let mut outputs = [0usize; 1022];
-    replay_with(
-        out,
-        doc,
-        steps,
-        &mut names,
-        &mut enums,
-        &mut events,
-        &mut outputs,
-        document(tally),
-    )
 }

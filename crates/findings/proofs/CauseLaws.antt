@@ -1,4 +1,5 @@
 -- The number of why an expression has no type is its cause's, and what is noted of the expression.
+use Rattle.std.specs.Prelude.{Ok, Err}
 use Prim.Native.Nat.{ℕ}
 use mathlib.Core.Path.{◌≡◌, refl, ap, sym, ◌∙◌}
 use mathlib.Core.List.{List}
@@ -9,11 +10,9 @@ use Rattle.typing.specs.Causes.{Answer, is, fails, number, cause_word}
 use Rattle.typing.specs.Blocks.{env_at}
 use Rattle.typing.specs.Typing.{type_expr}
 use Rattle.typing.specs.Typed.{Types}
-use Rattle.typing.specs.Means.{cause_of, bad, typed_of, outcome}
+use Rattle.typing.specs.Means.{cause_of, bad, typed_of, outcome, Typed}
 use Rattle.typing.specs.declared.ty.Ty.{Ty}
 use Rattle.typing.specs.declared.cause.Cause.{Cause}
-use Rattle.typing.specs.declared.cause.Typed.{Typed}
-use Rattle.typing.specs.declared.cause.Typed.TheVariants.{Is, Fails}
 use Rattle.typing.proofs.Depends.{type_agree}
 use Rattle.findings.specs.Finding.{type_cause}
 use Rattle.findings.specs.Noting.{Noted, numbered}
@@ -21,7 +20,7 @@ use Rattle.findings.specs.Promises.{TypedNumber, NotesTyped}
 use Rattle.findings.proofs.NoteLaws.{note_as, caused_numbered}
 
 module _ (s : List ℕ) {t : Typed} where
-  pub typed_none : {y : Ty} {k : ℕ} → t ≡ Is y k → TypedNumber s t 0
+  pub typed_none : {y : Ty} {k : ℕ} → t ≡ Ok (y, k) → TypedNumber s t 0
   unfolding typed_of outcome cause_word type_cause
   typed_none q = record { of = go }
     where
@@ -29,7 +28,7 @@ module _ (s : List ℕ) {t : Typed} where
       go (is x) k e = refl
       go (fails c) k e = no (cc)
 
-  pub typed_cause : {c : Cause} {n : ℕ} → t ≡ Fails c → n ≡ number (cause_of s c) → TypedNumber s t n
+  pub typed_cause : {c : Cause} {n : ℕ} → t ≡ Err c → n ≡ number (cause_of s c) → TypedNumber s t n
   unfolding typed_of outcome cause_word type_cause
   typed_cause {c} {n} q z = record { of = go }
     where

@@ -1,9 +1,10 @@
 -- Properties by their table: names that stand earlier too, and formulas.
+use Rattle.std.specs.Prelude.{Option as Maybe, is_some}
 use Prim.Native.Nat.{ℕ, zero, suc, ◌+◌, ◌*◌, ◌/◌, ◌<◌, ◌≤◌}
 use mathlib.Core.Path.{◌≡◌, refl, sym, ap, ◌∙◌}
 use mathlib.Core.List.{List, [], ◌∷◌, map}
 use mathlib.Core.Bool.{Bool, true, false, ◌||◌}
-use mathlib.Core.Option.{Option, some}
+use mathlib.Core.Option.{Option, none, some}
 use native.Mathlib.Omega.{arith}
 use lib.ListN.{length, get_or, get_elem?, length-map}
 use Rattle.reading.specs.Read.{pick}
@@ -18,14 +19,10 @@ use Rattle.typing.specs.Names.{eq_name}
 use Rattle.typing.specs.Env.{Env, given, Agree}
 use Rattle.typing.specs.Table.{find_first, found}
 use Rattle.typing.specs.Blocks.{env_at}
-use Rattle.typing.specs.Means.{unfit_of}
+use Rattle.typing.specs.Means.{unfit_of, Fit}
 use Rattle.typing.specs.Formulas.{type_formula}
 use Rattle.typing.specs.Shape.{Bounds}
 use Rattle.typing.specs.Judges.{TypesFormula}
-use Rattle.typing.specs.declared.rules.Fit.{Fit}
-use Rattle.typing.specs.declared.table.Found.{Found}
-use Rattle.typing.specs.declared.table.Found.TheVariants.{At, Nothing}
-use Rattle.typing.proofs.TableLaws.{given_at, given_not}
 use Rattle.typing.proofs.Agreement.{formula_agree}
 use Rattle.findings.specs.Lists.{Placed}
 use Rattle.findings.specs.Finding.{Note, note, noted}
@@ -36,16 +33,18 @@ use Rattle.findings.proofs.NoteLaws.{note_then, note_as, caused_numbered}
 use Rattle.findings.proofs.RowLaws.{moved}
 use Rattle.findings.proofs.EachLaws.{get_some, Counting, count_more, count_done}
 
+some_found : (o : Option ℕ) → is_some (found o) ≡ given o
+unfolding found given
+some_found none = refl
+some_found (some k) = refl
+
 -- what was found under a name
-module _ (s table : List ℕ) (i : ℕ) {name : ℕ} {w : Name} {f : Found} (a : name ≡ get_or table (2 * i) 0) (t : w ≡ text_at s name) (e : f ≡ found (find_first s w table i)) where
+module _ (s table : List ℕ) (i : ℕ) {name : ℕ} {w : Name} {f : Maybe ℕ} (a : name ≡ get_or table (2 * i) 0) (t : w ≡ text_at s name) (e : f ≡ found (find_first s w table i)) where
   earlier_as : f ≡ found (find_first s (text_at s (get_or table (2 * i) 0)) table i)
   earlier_as = e ∙ ap (λ (v : Name). found (find_first s v table i)) (t ∙ ap (text_at s) a)
 
-  pub earlier_yes : {k : ℕ} → f ≡ At k → true ≡ earlier_in s table i
-  earlier_yes q = given_at _ earlier_as q
-
-  pub earlier_no : f ≡ Nothing → false ≡ earlier_in s table i
-  earlier_no q = given_not _ earlier_as q
+  pub earlier_some : {b : Bool} → b ≡ is_some f → b ≡ earlier_in s table i
+  earlier_some q = q ∙ ap is_some earlier_as ∙ some_found _
 
 -- names before place k, from the last of them on
 or_swap : (a b c : Bool) → (a || (b || c)) ≡ (b || (a || c))

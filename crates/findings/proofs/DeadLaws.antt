@@ -17,14 +17,10 @@ use Rattle.reading.specs.Transition.{Transition}
 use Rattle.reading.specs.Skip.{text_at}
 use Rattle.reading.specs.Link.{answer}
 use Rattle.reading.specs.declared.cursor.Cursor.{Cursor}
-use Rattle.reading.specs.declared.fault.Fault.{Fault}
-use Rattle.reading.specs.declared.item.Answer.{Answer}
-use Rattle.reading.specs.declared.item.Answer.TheVariants.{Got, Refused}
 use Rattle.reading.proofs.DeclLaws.{constructor_variant_laws}
 use Rattle.typing.specs.Names.{eq_name, member, first_called}
 use Rattle.typing.specs.Patterns.{declared_name, pattern_variant_name}
 use Rattle.typing.specs.Table.{after_tag, Past}
-use Rattle.typing.specs.declared.table.Found.{Found}
 use Rattle.typing.proofs.EnvLaws.{after_is}
 use Rattle.typing.proofs.FirstLaws.{variant_text}
 use Rattle.findings.specs.Lists.{Placed, placed, any, each}
@@ -43,8 +39,10 @@ use Rattle.findings.proofs.NoteLaws.{note_as}
 use Rattle.findings.proofs.EachLaws.{Left, left_all, get_some, each_from, each_turn, each_done, Walking, walk_start, walk_refused, walk_more, walk_done}
 use Rattle.findings.proofs.ListLaws.{each_cong}
 use Rattle.findings.proofs.VariantLaws.{variants_front}
-
 -- the transitions that use a variant, by what their patterns give
+use Rattle.std.specs.Prelude.{Result, Option as Maybe, Ok, Err}
+use Rattle.reading.specs.declared.fault.Refusal.{Refusal}
+
 absent_use : (a n b : Bool) → (a || (n || (b && a))) ≡ (n || a)
 absent_use true true b = refl
 absent_use true false b = refl
@@ -86,13 +84,13 @@ each_placed d f k [] = refl
 each_placed d f k (x ∷ xs) = ap (λ (l : List Note). f (at_place k (d x)) ++ l) (each_placed d f (suc k) xs)
 
 -- the variants of the first group of a name
-found_variants : {s : List ℕ} {f : Found} {o : Option ConstructorGroup} → GroupFound s f o → VariantsAt s f (group_variants o)
+found_variants : {s : List ℕ} {f : Maybe ℕ} {o : Option ConstructorGroup} → GroupFound s f o → VariantsAt s f (group_variants o)
 unfolding group_variants
 found_variants (group_here e) = variants_here (record { end = _; is = e })
 found_variants group_nothing = variants_none
 
 -- a variant
-pub variant_noted : (s : List ℕ) (owner : ℕ) (o : List ℕ) (skip n r : ℕ) (o' : List ℕ) (found : Found) (table : List ℕ) (bare : Bool) (g at j : ℕ) {key : ℕ} {used : Bool} → key ≡ after_tag s at → IsUsed s found table bare key used → Noted owner o skip n (noted (not used) (note 22 g j 0)) r o' → NotesVariant s owner o skip n r o' found table bare g at j
+pub variant_noted : (s : List ℕ) (owner : ℕ) (o : List ℕ) (skip n r : ℕ) (o' : List ℕ) (found : Maybe ℕ) (table : List ℕ) (bare : Bool) (g at j : ℕ) {key : ℕ} {used : Bool} → key ≡ after_tag s at → IsUsed s found table bare key used → Noted owner o skip n (noted (not used) (note 22 g j 0)) r o' → NotesVariant s owner o skip n r o' found table bare g at j
 variant_noted s owner o skip n r o' found table bare g at j k i p = record {
   of = λ h x q.
       let w = ap (text_at s) k ∙ variant_text s at x q.end q.is in
@@ -100,15 +98,15 @@ variant_noted s owner o skip n r o' found table bare g at j k i p = record {
 }
 
 -- variants, one after the other
-module _ (s : List ℕ) (owner : ℕ) (o : List ℕ) (skip n : ℕ) (found : Found) (table : List ℕ) (bare : Bool) (g at : ℕ) where
+module _ (s : List ℕ) (owner : ℕ) (o : List ℕ) (skip n : ℕ) (found : Maybe ℕ) (table : List ℕ) (bare : Bool) (g at : ℕ) where
   abbrev pub VariantsLeft : (count k j r : ℕ) → List ℕ → Type 0
   VariantsLeft = Walking read_constructor_variant (unused_variant {s = s} {found = found} {table = table} bare g) s max_list at owner o skip n
 
-  module _ {a : Answer} (e : a ≡ answer (read_count max_list s at)) where
-    pub variants_refused : {t : Fault} {p : ℕ} → a ≡ Refused t p → NotesVariants s owner o skip n n o found table bare g at
+  module _ {a : Result (ℕ × Cursor) Refusal} (e : a ≡ answer (read_count max_list s at)) where
+    pub variants_refused : {t : Refusal} → a ≡ Err t → NotesVariants s owner o skip n n o found table bare g at
     variants_refused q = record { of = λ h xs r. walk_refused read_constructor_variant (unused_variant {s = s} {found = found} {table = table} bare g) s max_list at owner o skip n e q xs r }
 
-    pub variants_start : {count : ℕ} {c : Cursor} → a ≡ Got count c → VariantsLeft count c.at 0 n o
+    pub variants_start : {count : ℕ} {c : Cursor} → a ≡ Ok (count, c) → VariantsLeft count c.at 0 n o
     variants_start q = walk_start read_constructor_variant (unused_variant {s = s} {found = found} {table = table} bare g) s max_list at owner o skip n e q
 
   module _ {count k j r : ℕ} {o' : List ℕ} (w : VariantsLeft count k j r o') where
@@ -119,11 +117,11 @@ module _ (s : List ℕ) (owner : ℕ) (o : List ℕ) (skip n : ℕ) (found : Fou
     variants_done b = record { of = λ h xs q. walk_done read_constructor_variant (unused_variant {s = s} {found = found} {table = table} bare g) s max_list at owner o skip n w b h xs q }
 
 -- by the first words of a table
-pub front_noted : (s : List ℕ) (owner : ℕ) (o : List ℕ) (skip n r : ℕ) (o' : List ℕ) (found : Found) (table : List ℕ) (k : ℕ) (bare : Bool) (g at : ℕ) → NotesVariants s owner o skip n r o' found (take (k - 0) table) bare g at → NotesVariants s owner o skip n r o' found (take k table) bare g at
+pub front_noted : (s : List ℕ) (owner : ℕ) (o : List ℕ) (skip n r : ℕ) (o' : List ℕ) (found : Maybe ℕ) (table : List ℕ) (k : ℕ) (bare : Bool) (g at : ℕ) → NotesVariants s owner o skip n r o' found (take (k - 0) table) bare g at → NotesVariants s owner o skip n r o' found (take k table) bare g at
 front_noted s owner o skip n r o' found table k bare g at p = let z : k - 0 ≡ k = omega arith in rw z at p
 
 -- a group
-pub group_noted : (s : List ℕ) (owner : ℕ) (o : List ℕ) (skip n r : ℕ) (o' rows : List ℕ) (count : ℕ) (groups : List ℕ) (g : ℕ) {text text₂ : Name} {table : List ℕ} {u : Uses} {found : Found} → text ≡ text_at s (get_or groups (2 * g) 0) → UsesOf s rows count text table u → text₂ ≡ text_at s (get_or groups (2 * g) 0) → FirstVariants s groups text₂ found → NotesVariants s owner o skip n r o' found (take (2 * u.named) table) u.bare g (get_or groups (2 * g + 1) 0) → NotesGroup s owner o skip n r o' rows count groups g
+pub group_noted : (s : List ℕ) (owner : ℕ) (o : List ℕ) (skip n r : ℕ) (o' rows : List ℕ) (count : ℕ) (groups : List ℕ) (g : ℕ) {text text₂ : Name} {table : List ℕ} {u : Uses} {found : Maybe ℕ} → text ≡ text_at s (get_or groups (2 * g) 0) → UsesOf s rows count text table u → text₂ ≡ text_at s (get_or groups (2 * g) 0) → FirstVariants s groups text₂ found → NotesVariants s owner o skip n r o' found (take (2 * u.named) table) u.bare g (get_or groups (2 * g + 1) 0) → NotesGroup s owner o skip n r o' rows count groups g
 unfolding dead_in group_variants
 group_noted s owner o skip n r o' rows count groups g {text} {text₂} {table} {u} {found} t y t₂ z p = record {
   of = λ gs x ts c e w q.

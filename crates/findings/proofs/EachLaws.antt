@@ -12,13 +12,12 @@ use Rattle.reading.specs.Combine.{list_of}
 use Rattle.reading.specs.Views.{Rest}
 use Rattle.reading.specs.Link.{answer}
 use Rattle.reading.specs.declared.cursor.Cursor.{Cursor}
-use Rattle.reading.specs.declared.fault.Fault.{Fault}
-use Rattle.reading.specs.declared.item.Answer.{Answer}
-use Rattle.reading.specs.declared.item.Answer.TheVariants.{Got, Refused}
 use Rattle.reading.proofs.Rules.{no}
-use Rattle.reading.proofs.Answers.{num, out}
+use Rattle.reading.proofs.Answers.{got, out}
 use Rattle.reading.proofs.ItemLaws.{count_kind}
 use Rattle.reading.proofs.ListViews.{list_at, rest_all, turn}
+use Rattle.std.specs.Prelude.{Result, Ok, Err}
+use Rattle.reading.specs.declared.fault.Refusal.{Refusal}
 pub use Rattle.typing.proofs.GroupLaws.{get_some, drop_get}
 use Rattle.findings.specs.Lists.{Placed, placed, each}
 use Rattle.findings.specs.Finding.{Note}
@@ -70,8 +69,8 @@ module _ {A : Type 0} (f : Placed A → List Note) where
   each_done i xs {owner} {o} {skip} {n} {all} h l = left_none owner o skip n all l (ap (λ (ys : List A). each f (placed i ys)) (drop_of_length-le xs h))
 
 -- a list has no more entries than are allowed
-pub walk_few : (s : List ℕ) (limit at : ℕ) {a : Answer} {count : ℕ} {c : Cursor} → a ≡ answer (read_count limit s at) → a ≡ Got count c → count ≤ limit
-walk_few s limit at {count = count} {c = c} e q = (count_kind s at limit count c.at (num _ e q)).1
+pub walk_few : (s : List ℕ) (limit at : ℕ) {a : Result (ℕ × Cursor) Refusal} {count : ℕ} {c : Cursor} → a ≡ answer (read_count limit s at) → a ≡ Ok (count, c) → count ≤ limit
+walk_few s limit at {count = count} {c = c} e q = (count_kind s at limit count c.at (got _ e q)).1
 
 -- a list that reads at a place, entry by entry: the next entry, number i, stands at k. What is noted of an entry may depend on
 -- what else is known, h.
@@ -85,12 +84,12 @@ module _ {A H : Type 0} (F : Reader A) (f : H → Placed A → List Note) (s : L
   pub record Walking (count k i r : ℕ) (o' : List ℕ) : Type 0 where
     pub of : (h : H) (xs : List A) → Reads (list_of limit F) s at xs → Walked h xs count k i r o'
 
-  module _ {a : Answer} (e : a ≡ answer (read_count limit s at)) where
-    pub walk_start : {count : ℕ} {c : Cursor} → a ≡ Got count c → Walking count c.at 0 n o
+  module _ {a : Result (ℕ × Cursor) Refusal} (e : a ≡ answer (read_count limit s at)) where
+    pub walk_start : {count : ℕ} {c : Cursor} → a ≡ Ok (count, c) → Walking count c.at 0 n o
     walk_start {count} {c} q = record {
       of = λ h xs g.
           let l = list_at F s limit at xs g.end g.is in
-          let x = num _ e q in
+          let x = got _ e q in
           let y = l.opens in
           let u : count ≡ length xs = cc in
           let v : l.first ≡ c.at = cc in
@@ -103,7 +102,7 @@ module _ {A H : Type 0} (F : Reader A) (f : H → Placed A → List Note) (s : L
     }
 
     -- no list reads where its head is refused
-    pub walk_refused : {t : Fault} {p : ℕ} {P : Type 0} → a ≡ Refused t p → (xs : List A) → Reads (list_of limit F) s at xs → P
+    pub walk_refused : {t : Refusal} {P : Type 0} → a ≡ Err t → (xs : List A) → Reads (list_of limit F) s at xs → P
     walk_refused q xs g = let l = list_at F s limit at xs g.end g.is in no (let x = out _ e q in let y = l.opens in cc)
 
   module _ {count k i r : ℕ} {o' : List ℕ} (w : Walking count k i r o') where

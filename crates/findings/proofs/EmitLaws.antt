@@ -7,9 +7,6 @@ use Rattle.reading.specs.Item.{read_count}
 use Rattle.reading.specs.Decl.{ConstructorGroup}
 use Rattle.reading.specs.Transition.{OutputExpr, read_output_expr}
 use Rattle.reading.specs.Link.{answer}
-use Rattle.reading.specs.declared.fault.Fault.{Fault}
-use Rattle.reading.specs.declared.item.Answer.{Answer}
-use Rattle.reading.specs.declared.item.Answer.TheVariants.{Refused}
 use Rattle.reading.proofs.TransitionLaws.{output_expr_laws}
 use Rattle.typing.specs.Env.{Env, Agree}
 use Rattle.typing.specs.Table.{Past}
@@ -21,8 +18,11 @@ use Rattle.findings.specs.Finding.{Note}
 use Rattle.findings.specs.Errors.{emit_notes}
 use Rattle.findings.specs.Promises.{NotesOutput, NotesEmits}
 use Rattle.findings.proofs.EachLaws.{Walking, walk_refused, walk_more, walk_done}
-
 -- what is known where the outputs are judged
+use Rattle.std.specs.Prelude.{Result, Err}
+use Rattle.reading.specs.declared.fault.Refusal.{Refusal}
+use Rattle.reading.specs.declared.cursor.Cursor.{Cursor}
+
 pub record Emitting (s : List ℕ) (outputs names enums : List ℕ) : Type 0 where
   pub env : Env
   pub groups : List ConstructorGroup
@@ -36,8 +36,8 @@ module _ (s : List ℕ) (at i : ℕ) (outputs names enums : List ℕ) (owner : �
   abbrev pub Emits : (count k j r : ℕ) → List ℕ → Type 0
   Emits count k j r o' = Walking read_output_expr emitting s max_list at owner o skip n count k j r o'
 
-  module _ {a : Answer} (e : a ≡ answer (read_count max_list s at)) where
-    pub emits_refused : {t : Fault} {p : ℕ} → a ≡ Refused t p → NotesEmits s owner o skip n n o at i outputs names enums
+  module _ {a : Result (ℕ × Cursor) Refusal} (e : a ≡ answer (read_count max_list s at)) where
+    pub emits_refused : {t : Refusal} → a ≡ Err t → NotesEmits s owner o skip n n o at i outputs names enums
     emits_refused q = record { of = λ xs gs env g d y. walk_refused read_output_expr emitting s max_list at owner o skip n e q xs g }
 
   module _ {count k j r : ℕ} {o' : List ℕ} (w : Emits count k j r o') where

@@ -22,10 +22,6 @@ front_all (x ∷ l) (suc n) h = ap (λ (t : List ℕ). x ∷ t) (front_all l n (
 pub front_cut : (l : List ℕ) (n : ℕ) → take (n - 0) l ≡ take n l
 front_cut l n = ap (λ (k : ℕ). take k l) (sub-zero n)
 
-pub back_none : (l : List ℕ) (from : ℕ) {end : ℕ} → end ≡ length l → end ≤ from → take (end - end) (drop end l) ≡ drop from l
-back_none l from {end} e h =
-    ap (λ (k : ℕ). take k (drop end l)) (let z : end - end ≡ 0 = omega arith in z) ∙ sym (drop_of_length-le l {i = from} (omega arith))
-
 pub back_some : (l : List ℕ) (from : ℕ) {end : ℕ} → end ≡ length l → take (end - from) (drop from l) ≡ drop from l
 back_some l from {end} e = sym (front_all (drop from l) (end - from) (omega (arith, length-drop from l)))
 

@@ -1,4 +1,5 @@
 -- What each step of a guard's notes gives, for whatever reads there.
+use Rattle.std.specs.Prelude.{Ok, Err}
 use Prim.Native.Nat.{ℕ}
 use mathlib.Core.Path.{◌≡◌, sym}
 use mathlib.Core.List.{List, [], ◌∷◌}
@@ -13,13 +14,11 @@ use Rattle.typing.specs.Causes.{number}
 use Rattle.typing.specs.Rules.{is_bool}
 use Rattle.typing.specs.Env.{Env, Agree}
 use Rattle.typing.specs.Typing.{type_expr}
-use Rattle.typing.specs.Means.{ty_of, cause_of}
+use Rattle.typing.specs.Means.{ty_of, cause_of, Typed}
 use Rattle.typing.specs.Blocks.{env_at}
 use Rattle.typing.specs.Typed.{Types}
 use Rattle.typing.specs.declared.ty.Ty.{Ty}
 use Rattle.typing.specs.declared.cause.Cause.{Cause}
-use Rattle.typing.specs.declared.cause.Typed.{Typed}
-use Rattle.typing.specs.declared.cause.Typed.TheVariants.{Is, Fails}
 use Rattle.typing.proofs.Depends.{type_agree}
 use Rattle.typing.proofs.TypeLaws.{is_typed, is_failed}
 use Rattle.findings.specs.Finding.{Note, note, noted}
@@ -44,10 +43,10 @@ module _ (s : List ℕ) (at i : ℕ) (names enums : List ℕ) (owner : ℕ) (o :
           rw v.is (note_as owner (guard_typed i (type_expr env v.item)) (f v.item v.reads.end env v.reads.is a) p);
     }
 
-    pub guard_fails : {c : Cause} {w : ℕ} → t ≡ Fails c → w ≡ number (cause_of s c) → Noted owner o skip n (note 9 i 0 w ∷ []) r o' → NotesGuard s owner o skip n r o' at i names enums
+    pub guard_fails : {c : Cause} {w : ℕ} → t ≡ Err c → w ≡ number (cause_of s c) → Noted owner o skip n (note 9 i 0 w ∷ []) r o' → NotesGuard s owner o skip n r o' at i names enums
     unfolding guard_typed read_top_expr
     guard_fails z k p = guard_by _ p λ x m env v a. rw (sym (type_agree a x), is_failed (env_at s names enums) max_depth s at h x m v z, k)
 
-    pub guard_typed_lem : {τ : Ty} {m : ℕ} {d : Bool} → t ≡ Is τ m → d ≡ is_bool (ty_of s τ) → Noted owner o skip n (noted (not d) (note 10 i 0 0)) r o' → NotesGuard s owner o skip n r o' at i names enums
+    pub guard_typed_lem : {τ : Ty} {m : ℕ} {d : Bool} → t ≡ Ok (τ, m) → d ≡ is_bool (ty_of s τ) → Noted owner o skip n (noted (not d) (note 10 i 0 0)) r o' → NotesGuard s owner o skip n r o' at i names enums
     unfolding guard_typed read_top_expr
     guard_typed_lem z k p = guard_by _ p λ x m env v a. rw (sym (type_agree a x), (is_typed (env_at s names enums) max_depth s at h x m v z).0, k)

@@ -1,4 +1,5 @@
 -- What is noted of a guard, by what its judging answers; and of the guards of all transitions, row by row.
+use Rattle.std.specs.Prelude.{Option, Some, None}
 use Prim.Native.Nat.{ℕ, ◌+◌, ◌<◌, ◌≤◌}
 use mathlib.Core.Path.{◌≡◌, sym, ap, subst, ◌∙◌}
 use mathlib.Core.Bool.{Bool, true, false}
@@ -13,7 +14,6 @@ use Rattle.reading.specs.Transition.{Transition, read_top_expr}
 use Rattle.typing.specs.Env.{given}
 use Rattle.typing.specs.Holds.{clash_of, LiteralFalse, Contradicts}
 use Rattle.typing.specs.declared.guard.Clash.{Clash}
-use Rattle.typing.specs.declared.guard.Clash.TheVariants.{Nothing, Found}
 use Rattle.findings.specs.Lists.{placed, each}
 use Rattle.findings.specs.Finding.{Note, note}
 use Rattle.findings.specs.Warnings.{impossible_guard, impossible}
@@ -45,12 +45,12 @@ module _ (s : List ℕ) (owner : ℕ) (o : List ℕ) (skip n at i : ℕ) {b : Bo
     unfolding impossible_guard read_top_expr
     guard_false z p = by_guard (note 25 i 0 0 ∷ []) (λ x m k. rw (sym (f.of x m k) ∙ z)) p
 
-    module _ (z : l ≡ false) {c : Clash} (g : Contradicts 32 s at c) where
-      pub guard_fine : c ≡ Nothing → Notes n o
+    module _ (z : l ≡ false) {c : Option Clash} (g : Contradicts 32 s at c) where
+      pub guard_fine : c ≡ None → Notes n o
       unfolding impossible_guard read_top_expr given clash_of
       guard_fine w = by_guard [] (λ x m k. rw (sym (f.of x m k) ∙ z, sym (g.of x m k) ∙ ap (clash_of s) w)) (note_nothing owner o skip n)
 
-      pub guard_clash : {k v w r : ℕ} {o' : List ℕ} → c ≡ Found k v w → Noted owner o skip n (note 26 i 0 0 ∷ []) r o' → Notes r o'
+      pub guard_clash : {d : Clash} {r : ℕ} {o' : List ℕ} → c ≡ Some d → Noted owner o skip n (note 26 i 0 0 ∷ []) r o' → Notes r o'
       unfolding impossible_guard read_top_expr given clash_of
       guard_clash w p = by_guard (note 26 i 0 0 ∷ []) (λ x m k. rw (sym (f.of x m k) ∙ z, sym (g.of x m k) ∙ ap (clash_of s) w)) p
 

@@ -1,5 +1,5 @@
 -- Names mentioned by what stands in the document: lists entry by entry, records by their fields, transitions row by row.
-use Prim.Native.Nat.{ℕ, ◌+◌, ◌-◌, ◌<◌, ◌≤◌}
+use Prim.Native.Nat.{ℕ, ◌+◌, ◌<◌, ◌≤◌}
 use mathlib.Core.Path.{◌≡◌, refl, sym, ap, ◌∙◌}
 use mathlib.Core.Bool.{Bool, true, false}
 use mathlib.Core.List.{List, [], ◌∷◌, ◌++◌, append_assoc, append-nil}
@@ -15,11 +15,8 @@ use Rattle.reading.specs.Transition.{Assignment, Transition, read_top_expr, read
 use Rattle.reading.specs.Skip.{text_at}
 use Rattle.reading.specs.Link.{answer}
 use Rattle.reading.specs.declared.cursor.Cursor.{Cursor}
-use Rattle.reading.specs.declared.fault.Fault.{Fault}
-use Rattle.reading.specs.declared.item.Answer.{Answer}
-use Rattle.reading.specs.declared.item.Answer.TheVariants.{Got, Refused}
 use Rattle.reading.proofs.Rules.{no}
-use Rattle.reading.proofs.Answers.{num, out}
+use Rattle.reading.proofs.Answers.{got, out}
 use Rattle.reading.proofs.ExprLaws.{name_laws, name_solid}
 use Rattle.reading.proofs.OptionLaws.{option_laws}
 use Rattle.reading.proofs.TransitionLaws.{top_expr_laws}
@@ -35,42 +32,44 @@ use Rattle.findings.specs.Touch.{Touched, Touches, output_names, set_name, set_n
 use Rattle.findings.proofs.EachLaws.{get_some, drop_get}
 use Rattle.findings.proofs.OptionLaws.{not_given, is_given}
 use Rattle.findings.proofs.TouchLaws.{touched_none, touched_then, touched_as, touched_full}
-
 -- a list entry by entry: so many are left, the next at k
+use Rattle.std.specs.Prelude.{Result, Ok, Err}
+use Rattle.reading.specs.declared.fault.Refusal.{Refusal}
+
 module _ {A : Type 0} (F : Reader A) (f : A → List Name) (s : List ℕ) (at : ℕ) (names m : List ℕ) where
-  pub record ListLeft (xs : List A) (n left k : ℕ) (m' : List ℕ) : Type 0 where
+  pub record ListLeft (xs : List A) (n count i k : ℕ) (m' : List ℕ) : Type 0 where
     pub rest : List A
-    pub many : length rest ≡ left
+    pub many : i + length rest ≡ count
     pub reads : entries (length rest) F s k ≡ ok rest n
     pub done : List Name
     pub split : done ++ each f rest ≡ each f xs
     pub marked : Touched s names m done m'
 
-  pub record Listing (left k : ℕ) (m' : List ℕ) : Type 0 where
-    pub of : (xs : List A) (n : ℕ) → list_of max_list F s at ≡ ok xs n → ListLeft xs n left k m'
+  pub record Listing (count i k : ℕ) (m' : List ℕ) : Type 0 where
+    pub of : (xs : List A) (n : ℕ) → list_of max_list F s at ≡ ok xs n → ListLeft xs n count i k m'
 
-  module _ {a : Answer} (e : a ≡ answer (read_count max_list s at)) where
-    pub list_refused : {t : Fault} {p : ℕ} {P : Type 0} → a ≡ Refused t p → (xs : List A) (n : ℕ) → list_of max_list F s at ≡ ok xs n → P
+  module _ {a : Result (ℕ × Cursor) Refusal} (e : a ≡ answer (read_count max_list s at)) where
+    pub list_refused : {t : Refusal} {P : Type 0} → a ≡ Err t → (xs : List A) (n : ℕ) → list_of max_list F s at ≡ ok xs n → P
     list_refused q xs n g = let l = list_at F s max_list at xs n g in no (let x = out _ e q in let y = l.opens in cc)
 
-    pub list_start : {c : ℕ} {first : Cursor} → a ≡ Got c first → Listing c first.at m
+    pub list_start : {c : ℕ} {first : Cursor} → a ≡ Ok (c, first) → Listing c 0 first.at m
     list_start {c} {first} q = record {
       of = λ xs n g.
           let l = list_at F s max_list at xs n g in
-          let x = num _ e q in
+          let x = got _ e q in
           let y = l.opens in
           let u : length xs ≡ c = cc in
           let v : l.first ≡ first.at = cc in
-          record { rest = xs; many = u; reads = ap (entries (length xs) F s) (sym v) ∙ l.entries_are; done = []; split = refl; marked = touched_none s names m };
+          record { rest = xs; many = omega arith; reads = ap (entries (length xs) F s) (sym v) ∙ l.entries_are; done = []; split = refl; marked = touched_none s names m };
     }
 
-  module _ (left k : ℕ) {m' : List ℕ} (g : Listing left k m') where
-    pub list_more : {k' : ℕ} {m'' : List ℕ} → 0 < left → Touches F f s k names m' k' m'' → Listing (left - 1) k' m''
+  module _ (count i k : ℕ) {m' : List ℕ} (g : Listing count i k m') where
+    pub list_more : {k' : ℕ} {m'' : List ℕ} → i < count → Touches F f s k names m' k' m'' → Listing count (i + 1) k' m''
     list_more {k'} {m''} h t = record { of = λ xs n q. let l = g.of xs n q in go l.rest n l.many l.reads l.done l.split l.marked }
       where
-        go : (rest : List A) (n : ℕ) {xs : List A} → length rest ≡ left → entries (length rest) F s k ≡ ok rest n → (done : List Name) → done ++ each f rest ≡ each f xs → Touched s names m done m' → ListLeft xs n (left - 1) k' m''
-        go [] n i r d j u = absurd (omega arith)
-        go (x ∷ xs) n i r d j u =
+        go : (rest : List A) (n : ℕ) {xs : List A} → i + length rest ≡ count → entries (length rest) F s k ≡ ok rest n → (done : List Name) → done ++ each f rest ≡ each f xs → Touched s names m done m' → ListLeft xs n count (i + 1) k' m''
+        go [] n l r d j u = absurd (omega arith)
+        go (x ∷ xs) n l r d j u =
             let v = entry F s k x xs n r in
             record {
               rest = xs;
@@ -81,30 +80,30 @@ module _ {A : Type 0} (F : Reader A) (f : A → List Name) (s : List ℕ) (at : 
               marked = touched_then s names u (t.of x v.end v.here);
             }
 
-    pub list_done : left ≤ 0 → (xs : List A) (n : ℕ) → list_of max_list F s at ≡ ok xs n → (k ≡ n) × Touched s names m (each f xs) m'
+    pub list_done : count ≤ i → (xs : List A) (n : ℕ) → list_of max_list F s at ≡ ok xs n → (k ≡ n) × Touched s names m (each f xs) m'
     unfolding entries
     list_done h xs n q = let l = g.of xs n q in go l.rest l.many l.reads l.done l.split l.marked
       where
-        go : (rest : List A) → length rest ≡ left → entries (length rest) F s k ≡ ok rest n → (done : List Name) → done ++ each f rest ≡ each f xs → Touched s names m done m' → (k ≡ n) × Touched s names m (each f xs) m'
-        go [] i r d j u = (cc, touched_as s names (each f xs) (sym (append-nil d) ∙ j) u)
-        go (x ∷ ys) i r d j u = absurd (omega arith)
+        go : (rest : List A) → i + length rest ≡ count → entries (length rest) F s k ≡ ok rest n → (done : List Name) → done ++ each f rest ≡ each f xs → Touched s names m done m' → (k ≡ n) × Touched s names m (each f xs) m'
+        go [] l r d j u = (cc, touched_as s names (each f xs) (sym (append-nil d) ∙ j) u)
+        go (x ∷ ys) l r d j u = absurd (omega arith)
 
 set_each : (xs : List Assignment) → each set_name xs ≡ set_names xs
 set_each [] = refl
 set_each (x ∷ xs) = ap (λ (ns : List Name). x.var ∷ ns) (set_each xs)
 
 module _ (s : List ℕ) (at : ℕ) (names m : List ℕ) where
-  abbrev pub ArgsLeft : ℕ → ℕ → List ℕ → Type 0
+  abbrev pub ArgsLeft : ℕ → ℕ → ℕ → List ℕ → Type 0
   ArgsLeft = Listing read_top_expr collect_names s at names m
 
-  abbrev pub EmitsLeft : ℕ → ℕ → List ℕ → Type 0
+  abbrev pub EmitsLeft : ℕ → ℕ → ℕ → List ℕ → Type 0
   EmitsLeft = Listing read_output_expr output_names s at names m
 
-  abbrev pub SetsLeft : ℕ → ℕ → List ℕ → Type 0
+  abbrev pub SetsLeft : ℕ → ℕ → ℕ → List ℕ → Type 0
   SetsLeft = Listing read_assignment set_name s at names m
 
-  module _ {a : Answer} (e : a ≡ answer (read_count max_list s at)) where
-    module _ (r : ℕ) (m' : List ℕ) {t : Fault} {p : ℕ} (q : a ≡ Refused t p) where
+  module _ {a : Result (ℕ × Cursor) Refusal} (e : a ≡ answer (read_count max_list s at)) where
+    module _ (r : ℕ) (m' : List ℕ) {t : Refusal} (q : a ≡ Err t) where
       pub args_refused : TouchesArgs s at names m r m'
       args_refused = record { end = λ xs n g. list_refused read_top_expr collect_names s at names m e q xs n g; of = λ xs n g. list_refused read_top_expr collect_names s at names m e q xs n g }
 
@@ -114,38 +113,38 @@ module _ (s : List ℕ) (at : ℕ) (names m : List ℕ) where
       pub sets_refused : TouchesSets s at names m r m'
       sets_refused = record { end = λ xs n g. list_refused read_assignment set_name s at names m e q xs n g; of = λ xs n g. list_refused read_assignment set_name s at names m e q xs n g }
 
-    module _ {c : ℕ} {first : Cursor} (q : a ≡ Got c first) where
-      pub args_start : ArgsLeft c first.at m
+    module _ {c : ℕ} {first : Cursor} (q : a ≡ Ok (c, first)) where
+      pub args_start : ArgsLeft c 0 first.at m
       args_start = list_start read_top_expr collect_names s at names m e q
 
-      pub emits_start : EmitsLeft c first.at m
+      pub emits_start : EmitsLeft c 0 first.at m
       emits_start = list_start read_output_expr output_names s at names m e q
 
-      pub sets_start : SetsLeft c first.at m
+      pub sets_start : SetsLeft c 0 first.at m
       sets_start = list_start read_assignment set_name s at names m e q
 
-  module _ (left k : ℕ) {m' : List ℕ} where
-    pub args_more : {k' : ℕ} {m'' : List ℕ} → ArgsLeft left k m' → 0 < left → TouchesExpr s k names m' k' m'' 32 → ArgsLeft (left - 1) k' m''
+  module _ (count i k : ℕ) {m' : List ℕ} where
+    pub args_more : {k' : ℕ} {m'' : List ℕ} → ArgsLeft count i k m' → i < count → TouchesExpr s k names m' k' m'' 32 → ArgsLeft count (i + 1) k' m''
     unfolding read_top_expr
-    args_more g = list_more read_top_expr collect_names s at names m left k g
+    args_more g = list_more read_top_expr collect_names s at names m count i k g
 
-    pub args_done : ArgsLeft left k m' → left ≤ 0 → TouchesArgs s at names m k m'
-    args_done g h = record { end = λ xs n q. (list_done read_top_expr collect_names s at names m left k g h xs n q).0; of = λ xs n q. (list_done read_top_expr collect_names s at names m left k g h xs n q).1 }
+    pub args_done : ArgsLeft count i k m' → count ≤ i → TouchesArgs s at names m k m'
+    args_done g h = record { end = λ xs n q. (list_done read_top_expr collect_names s at names m count i k g h xs n q).0; of = λ xs n q. (list_done read_top_expr collect_names s at names m count i k g h xs n q).1 }
 
-    pub emits_more : {k' : ℕ} {m'' : List ℕ} → EmitsLeft left k m' → 0 < left → TouchesOutput s k names m' k' m'' → EmitsLeft (left - 1) k' m''
-    emits_more g = list_more read_output_expr output_names s at names m left k g
+    pub emits_more : {k' : ℕ} {m'' : List ℕ} → EmitsLeft count i k m' → i < count → TouchesOutput s k names m' k' m'' → EmitsLeft count (i + 1) k' m''
+    emits_more g = list_more read_output_expr output_names s at names m count i k g
 
-    pub emits_done : EmitsLeft left k m' → left ≤ 0 → TouchesEmits s at names m k m'
+    pub emits_done : EmitsLeft count i k m' → count ≤ i → TouchesEmits s at names m k m'
     unfolding emit_names
-    emits_done g h = record { end = λ xs n q. (list_done read_output_expr output_names s at names m left k g h xs n q).0; of = λ xs n q. (list_done read_output_expr output_names s at names m left k g h xs n q).1 }
+    emits_done g h = record { end = λ xs n q. (list_done read_output_expr output_names s at names m count i k g h xs n q).0; of = λ xs n q. (list_done read_output_expr output_names s at names m count i k g h xs n q).1 }
 
-    pub sets_more : {k' : ℕ} {m'' : List ℕ} → SetsLeft left k m' → 0 < left → TouchesSet s k names m' k' m'' → SetsLeft (left - 1) k' m''
-    sets_more g = list_more read_assignment set_name s at names m left k g
+    pub sets_more : {k' : ℕ} {m'' : List ℕ} → SetsLeft count i k m' → i < count → TouchesSet s k names m' k' m'' → SetsLeft count (i + 1) k' m''
+    sets_more g = list_more read_assignment set_name s at names m count i k g
 
-    pub sets_done : SetsLeft left k m' → left ≤ 0 → TouchesSets s at names m k m'
+    pub sets_done : SetsLeft count i k m' → count ≤ i → TouchesSets s at names m k m'
     sets_done g h = record {
-      end = λ xs n q. (list_done read_assignment set_name s at names m left k g h xs n q).0;
-      of = λ xs n q. touched_as s names (set_names xs) (set_each xs) (list_done read_assignment set_name s at names m left k g h xs n q).1;
+      end = λ xs n q. (list_done read_assignment set_name s at names m count i k g h xs n q).0;
+      of = λ xs n q. touched_as s names (set_names xs) (set_each xs) (list_done read_assignment set_name s at names m count i k g h xs n q).1;
     }
 
   -- an output and a set, by their fields

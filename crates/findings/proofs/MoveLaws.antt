@@ -9,7 +9,8 @@ use mir.Syntax.{w8}
 use mir.Val.{Fits}
 use borrow.Author.Tests.{le-ltb, lt-leb, eq-eqb, ne_eqb}
 use Rattle.reading.specs.Read.{ok, pick}
-use Rattle.reading.specs.Head.{Hd, be1, settled, long_head, wide_head, simple, head_with, read_head}
+use Rattle.reading.specs.Head.{be1, settled, long_head, wide_head, simple, head_with, read_head}
+use Rattle.reading.specs.declared.cursor.Head.{Head}
 use Rattle.reading.specs.Items.{inside, payload, Items, none, more}
 use Rattle.reading.proofs.Rules.{pick_true, pick_false}
 use Rattle.reading.proofs.Skips.{items_passed}
@@ -40,7 +41,7 @@ module _ (s : List ℕ) (at : ℕ) where
   unfolding place_after
   passed w l = sym (ap place_after (items_passed w l))
 
-  one_more : {k n : ℕ} (x : Hd) (m : ℕ) → read_head s at ≡ ok x m → {i p : ℕ} → k + inside x ≡ i → m + payload x ≡ p → Items s i p n → Items s (suc k) at n
+  one_more : {k n : ℕ} (x : Head) (m : ℕ) → read_head s at ≡ ok x m → {i p : ℕ} → k + inside x ≡ i → m + payload x ≡ p → Items s i p n → Items s (suc k) at n
   one_more {k} {n} x m e u v w = more {k = k} {n = n} x m e (rw (u, v) w)
 
   module _ (each : (i : ℕ) → Fits w8 (get_or s i 0)) where
@@ -51,27 +52,20 @@ module _ (s : List ℕ) (at : ℕ) where
       each = λ i. omega (arith, each i);
     }
 
-    pub past_pattern : {r : ℕ} → at < length s → get_or s at 0 ≡ 130 → PastBare s (at + 1) r → 0 < r → Past s at r
+    pub past_pattern : {r : ℕ} → at < length s → get_or s at 0 ≡ 130 → PastBare s (at + 1) r → Past s at r
     unfolding inside payload pick
-    past_pattern {r} h e w b =
-        let v = w.of b in
-        record {
-          is = passed (one_more _ (at + 1) (head_one s at h 4 2 (omega arith) (omega arith) (omega arith) (omega arith)) refl (omega arith) v.0) v.1;
-          each = λ i. omega (arith, each i);
-        }
+    past_pattern {r} h e w = record {
+      is = passed (one_more _ (at + 1) (head_one s at h 4 2 (omega arith) (omega arith) (omega arith) (omega arith)) refl (omega arith) w.items) w.within;
+      each = λ i. omega (arith, each i);
+    }
 
 module _ (s : List ℕ) (name : ℕ) where
-  pub bare_not : PastBare s name 0
-  bare_not = record { of = λ h. absurd (omega arith) }
-
   pub bare_is : {n : ℕ} → name < length s → 97 ≤ get_or s name 0 → get_or s name 0 ≤ 119 → n ≡ get_or s name 0 - 96 → n + 1 < length s - name → get_or s (name + 1 + n) 0 ≡ 246 → PastBare s name (name + 1 + n + 1)
   unfolding inside payload pick
   bare_is {n} h l m q o e = record {
-    of = λ b. (
-      one_more s name _ (name + 1) (head_one s name h 3 n (omega arith) (omega arith) (omega arith) (omega arith)) refl refl
-          (one_more s (name + 1 + n) _ (name + 1 + n + 1) (head_null s (name + 1 + n) (omega arith) e) refl (omega arith) none),
-      omega arith,
-    );
+    items = one_more s name _ (name + 1) (head_one s name h 3 n (omega arith) (omega arith) (omega arith) (omega arith)) refl refl
+        (one_more s (name + 1 + n) _ (name + 1 + n + 1) (head_null s (name + 1 + n) (omega arith) e) refl (omega arith) none);
+    within = omega arith;
   }
 
 -- eight fields are four and then four

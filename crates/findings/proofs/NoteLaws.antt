@@ -13,7 +13,7 @@ use Rattle.typing.specs.Causes as causes
 use Rattle.typing.specs.Causes.{Cause, Blame, cause_word, blame_word, number}
 use Rattle.findings.specs.Finding.{Note, note, in_module, words, noted, caused, blamed}
 use Rattle.findings.specs.Noting.{Noted, numbered}
-use Rattle.findings.proofs.SheetLaws.{nothing, then, written_length, written_before, written_full, written_one}
+use Rattle.findings.proofs.SheetLaws.{nothing, then, written_before, written_full, written_one}
 
 module _ (owner : ℕ) where
   pub note_nothing : (o : List ℕ) (skip n : ℕ) → Noted owner o skip n [] n o
@@ -21,9 +21,6 @@ module _ (owner : ℕ) where
 
   pub note_then : {o o' o'' : List ℕ} {skip n r r' : ℕ} {xs ys : List Note} → Noted owner o skip n xs r o' → Noted owner o' skip r ys r' o'' → Noted owner o skip n (xs ++ ys) r' o''
   note_then {xs} {ys} p q = record { written = rw (map-append (in_module owner) xs ys) (then p.written q.written) }
-
-  pub note_length : {o o' : List ℕ} {skip n r : ℕ} {xs : List Note} → Noted owner o skip n xs r o' → length o' ≡ length o
-  note_length p = written_length p.written
 
   -- the same notes, told otherwise
   pub note_as : {o o' : List ℕ} {skip n r : ℕ} {xs : List Note} (ys : List Note) → xs ≡ ys → Noted owner o skip n xs r o' → Noted owner o skip n ys r o'

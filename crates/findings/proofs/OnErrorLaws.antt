@@ -11,9 +11,6 @@ use Rattle.reading.specs.Transition.{OutputExpr, read_output_expr, read_on_error
 use Rattle.reading.specs.Module.{Module}
 use Rattle.reading.specs.Skip.{text_at}
 use Rattle.reading.specs.Link.{answer}
-use Rattle.reading.specs.declared.fault.Fault.{Fault}
-use Rattle.reading.specs.declared.item.Answer.{Answer}
-use Rattle.reading.specs.declared.item.Answer.TheVariants.{Refused}
 use Rattle.reading.proofs.ExprLaws.{name_laws}
 use Rattle.reading.proofs.TransitionLaws.{output_expr_laws}
 use Rattle.reading.proofs.Views.{on_error_at}
@@ -21,7 +18,6 @@ use Rattle.reading.proofs.Walks.{name_text}
 use Rattle.typing.specs.Env.{Agree, for_module}
 use Rattle.typing.specs.Table.{after_item, after_head, Past}
 use Rattle.typing.specs.Blocks.{env_at}
-use Rattle.typing.specs.declared.table.Found.{Found}
 use Rattle.typing.proofs.EnvLaws.{after_is, fields_head}
 use Rattle.typing.specs.Rolls.{OutputsAt}
 use Rattle.findings.specs.Lists.{Placed}
@@ -33,8 +29,11 @@ use Rattle.findings.proofs.NoteLaws.{note_nothing, note_then, note_as}
 use Rattle.findings.proofs.RowLaws.{moved}
 use Rattle.findings.proofs.OptionLaws.{not_given, is_given}
 use Rattle.findings.proofs.EachLaws.{Walking, walk_refused, walk_more, walk_done}
-
 -- what the outputs are judged by
+use Rattle.std.specs.Prelude.{Result, Option, Err}
+use Rattle.reading.specs.declared.fault.Refusal.{Refusal}
+use Rattle.reading.specs.declared.cursor.Cursor.{Cursor}
+
 module _ (s outputs names enums : List ℕ) where
   abbrev pub Judged : Type 0
   Judged = (m : Module) × OutputsAt s outputs m.outputs × Agree (env_at s names enums) (for_module m)
@@ -46,7 +45,7 @@ module _ (s outputs names enums : List ℕ) where
   ErrorEmits at owner o skip n = Walking read_output_expr judged_emits s max_list at owner o skip n
 
 module _ (s outputs names enums : List ℕ) (at owner : ℕ) {o : List ℕ} {skip n : ℕ} where
-  pub error_emits_refused : {a : Answer} {t : Fault} {p : ℕ} → a ≡ answer (read_count max_list s at) → a ≡ Refused t p → NotesErrorEmits s owner o skip n n o at outputs names enums
+  pub error_emits_refused : {a : Result (ℕ × Cursor) Refusal} {t : Refusal} → a ≡ answer (read_count max_list s at) → a ≡ Err t → NotesErrorEmits s owner o skip n n o at outputs names enums
   error_emits_refused e q = record {
     of = λ xs m g h f. walk_refused read_output_expr (judged_emits s outputs names enums) s max_list at owner o skip n e q xs g;
   }
@@ -62,7 +61,7 @@ module _ (s outputs names enums : List ℕ) (at owner : ℕ) {o : List ℕ} {ski
     pub error_emits_done : count ≤ i → NotesErrorEmits s owner o skip n r o' at outputs names enums
     error_emits_done b = record { of = λ xs m g h f. walk_done read_output_expr (judged_emits s outputs names enums) s max_list at owner o skip n w b (m, h, f) xs g }
 
-module _ (s : List ℕ) (owner : ℕ) {o : List ℕ} {skip n : ℕ} (at : ℕ) {found : Found} {outputs names enums : List ℕ} {t : Bool} (e : t ≡ eqb (get_or s at 0) 246) where
+module _ (s : List ℕ) (owner : ℕ) {o : List ℕ} {skip n : ℕ} (at : ℕ) {found : Option ℕ} {outputs names enums : List ℕ} {t : Bool} (e : t ≡ eqb (get_or s at 0) 246) where
   pub on_error_absent : t ≡ true → NotesOnError s owner o skip n n o at found outputs names enums
   unfolding on_error_notes
   on_error_absent q = record {

@@ -1,4 +1,5 @@
 -- Names gathered once: each name of a table is found with its number, and what marks it marks the variables of the name.
+use Rattle.std.specs.Prelude.{Option as Maybe, Some, None}
 use Prim.Native.Nat.{ℕ, zero, suc, ◌+◌, ◌-◌, ◌*◌, ◌/◌, ◌<◌, ◌≤◌}
 use mathlib.Core.Path.{◌≡◌, refl, sym, ap, subst, ◌∙◌}
 use mathlib.Core.Logic.{◌⊎◌, inl, inr}
@@ -18,13 +19,11 @@ use Rattle.reading.proofs.Rules.{no, by}
 use Rattle.typing.specs.Names.{eq_name, member}
 use Rattle.typing.specs.Env.{given}
 use Rattle.typing.specs.Table.{find_first, found}
-use Rattle.typing.specs.Lanes.{lane_by, key_of, Lanes, Laned}
-use Rattle.typing.specs.declared.table.Found.{Found}
-use Rattle.typing.specs.declared.table.Found.TheVariants.{At, Nothing}
+use Rattle.typing.specs.Lanes.{Lanes, Laned}
 use Rattle.typing.proofs.NameLaws.{eq_name_eq, eq_name_refl}
 use Rattle.typing.proofs.TableLaws.{given_at, given_pick}
 use Rattle.typing.proofs.PathLaws.{found_at, found_none}
-use Rattle.typing.proofs.LaneLaws.{put, words_kept, pair_laned, pair_value, pair_found, woven_kept}
+use Rattle.typing.proofs.LaneLaws.{put, words_kept, pair_laned, pair_value, pair_found}
 use Rattle.findings.specs.Touch.{var_at, Touched, TouchesAll, Numbered, GathersName, Gathered, own_mark, HandedOn}
 use Rattle.findings.proofs.TouchLaws.{last_or_before}
 
@@ -35,7 +34,7 @@ pick_same false c h = refl
 
 -- a name is one of them already, or it is put after them
 module _ {s : List ℕ} (at : ℕ) {once : List ℕ} {m : ℕ} {heads links : List ℕ} (g : Numbered s once m heads links) where
-  pub name_known : {t : Name} {f : Found} {j : ℕ} → t ≡ text_at s at → f ≡ found (find_first s t once m) → f ≡ At j → GathersName s at once m m once heads links
+  pub name_known : {t : Name} {f : Maybe ℕ} {j : ℕ} → t ≡ text_at s at → f ≡ found (find_first s t once m) → f ≡ Some j → GathersName s at once m m once heads links
   name_known t e q = record {
     numbered = g;
     has = λ w. pick_same (eq_name (text_at s at) w) (given (find_first s w once m)) (λ z. sym (given_at (find_first s w once m) (rw (sym (eq_name_eq (text_at s at) w z), sym t) e) q));
@@ -84,15 +83,15 @@ number_found s once w (suc m) f i e =
     (λ q. let r = number_found s once w m (λ j h. f j (omega arith)) i (rw q at e) in (let h = r.0 in omega arith, r.1))
 
 -- whether the name at a place is marked
-module _ (s : List ℕ) (at : ℕ) (once : List ℕ) (m : ℕ) (own : List ℕ) {w : Name} {f : Found} (t : w ≡ text_at s at) (e : f ≡ found (find_first s w once m)) where
-  pub mark_room : {heads links : List ℕ} {j : ℕ} → Numbered s once m heads links → m ≤ length own → f ≡ At j → j < length own
+module _ (s : List ℕ) (at : ℕ) (once : List ℕ) (m : ℕ) (own : List ℕ) {w : Name} {f : Maybe ℕ} (t : w ≡ text_at s at) (e : f ≡ found (find_first s w once m)) where
+  pub mark_room : {heads links : List ℕ} {j : ℕ} → Numbered s once m heads links → m ≤ length own → f ≡ Some j → j < length own
   mark_room {j = j} g l q = let h = (number_found s once w m g.number j (found_at _ e q)).0 in omega arith
 
-  pub mark_found : {j : ℕ} → f ≡ At j → eqb (get_or own j 0) 1 ≡ own_mark own (find_first s (text_at s at) once m)
+  pub mark_found : {j : ℕ} → f ≡ Some j → eqb (get_or own j 0) 1 ≡ own_mark own (find_first s (text_at s at) once m)
   unfolding own_mark
   mark_found q = rw (sym t, found_at _ e q)
 
-  pub mark_none : f ≡ Nothing → false ≡ own_mark own (find_first s (text_at s at) once m)
+  pub mark_none : f ≡ None → false ≡ own_mark own (find_first s (text_at s at) once m)
   unfolding own_mark
   mark_none q = rw (sym t, found_none _ e q)
 
@@ -131,19 +130,6 @@ module _ (s names once : List ℕ) (m : ℕ) (own marks : List ℕ) where
       at = λ j h l. by (ltb j k) (λ q. g.at j (ltb-true j k q) l) (λ q. let z = ltb-false j k q in let y = f (omega arith) in let x = g.size in absurd (omega arith));
       other = λ j h. g.other j (omega arith);
     }
-
--- the lanes of the names gathered, told of these alone
-pub gathered_lanes : {s once : List ℕ} {m : ℕ} {heads links : List ℕ} → Numbered s once m heads links → Lanes s (take (2 * m - 0) once) (length (take (2 * m - 0) once) / 2) heads links
-gathered_lanes {s} {once} {m} {heads} {links} g =
-    let w = g.laned.lanes in
-    let z = length-take-le (2 * m) once w.table_room in
-    let y : length (take (2 * m) once) / 2 ≡ m = omega arith in
-    rw (sub-zero, y) (record {
-      heads_size = w.heads_size;
-      table_room = omega arith;
-      links_room = w.links_room;
-      woven = woven_kept w.woven (λ j h. ap (λ (a : ℕ). lane_by (key_of heads) (text_at s a)) (get_or-take (2 * m) once (2 * j) 0 (omega arith))) (λ h l. refl) (λ i l. refl) (λ i j a b x. x);
-    })
 
 mark_is : (b : Bool) {x : ℕ} → x ≡ cond b 1 0 → eqb x 1 ≡ b
 mark_is true e = rw e

@@ -14,9 +14,6 @@ use Rattle.reading.specs.Decl.{VarDecl, read_var_decl}
 use Rattle.reading.specs.Transition.{read_top_expr}
 use Rattle.reading.specs.Skip.{text_at}
 use Rattle.reading.specs.Link.{answer}
-use Rattle.reading.specs.declared.fault.Fault.{Fault}
-use Rattle.reading.specs.declared.item.Answer.{Answer}
-use Rattle.reading.specs.declared.item.Answer.TheVariants.{Refused}
 use Rattle.reading.proofs.ExprLaws.{name_laws}
 use Rattle.reading.proofs.DeclLaws.{ty_laws}
 use Rattle.reading.proofs.Views.{var_decl_at}
@@ -26,7 +23,6 @@ use Rattle.typing.specs.Tells.{Ends}
 use Rattle.typing.specs.Table.{after_item, after_head, Past}
 use Rattle.typing.specs.Blocks.{env_at}
 use Rattle.typing.specs.Version.{is_valid_version_format}
-use Rattle.typing.specs.declared.table.Found.{Found}
 use Rattle.typing.proofs.EnvLaws.{after_is, fields_head}
 use Rattle.findings.specs.Lists.{Placed}
 use Rattle.findings.specs.Finding.{Note, note, noted}
@@ -38,10 +34,13 @@ use Rattle.findings.proofs.NoteLaws.{note_nothing, note_then, note_as}
 use Rattle.findings.proofs.RowLaws.{moved}
 use Rattle.findings.proofs.OptionLaws.{not_given, is_given}
 use Rattle.findings.proofs.EachLaws.{Walking, walk_refused, walk_more, walk_done}
+use Rattle.std.specs.Prelude.{Result, Option as Maybe, Err}
+use Rattle.reading.specs.declared.fault.Refusal.{Refusal}
+use Rattle.reading.specs.declared.cursor.Cursor.{Cursor}
 
 module _ (s : List ℕ) (owner : ℕ) {o : List ℕ} {skip n : ℕ} (at : ℕ) {t : Bool} (e : t ≡ eqb (get_or s at 0) 246) where
   -- the initial state
-  module _ {o' : List ℕ} {r : ℕ} {found : Found} {moves : Bool} where
+  module _ {o' : List ℕ} {r : ℕ} {found : Maybe ℕ} {moves : Bool} where
     pub initial_absent : t ≡ true → Noted owner o skip n (noted moves (note 3 0 0 0)) r o' → NotesInitial s owner o skip n r o' found at moves
     unfolding initial_notes
     initial_absent q p = record { of = λ vs w h g. note_as owner _ (ap (λ (x : Option Name). initial_notes vs x moves) (sym (not_given read_name s at g e q))) p }
@@ -90,7 +89,7 @@ module _ (s : List ℕ) (names enums : List ℕ) where
 abbrev pub Inits : (s names enums : List ℕ) (at owner : ℕ) (o : List ℕ) (skip n count k i r : ℕ) (o' : List ℕ) → Type 0
 Inits s names enums at owner o skip n = Walking read_var_decl (meant_inits s names enums) s max_list at owner o skip n
 
-pub inits_refused : (s names enums : List ℕ) (at owner : ℕ) {o : List ℕ} {skip n : ℕ} {a : Answer} {t : Fault} {p : ℕ} → a ≡ answer (read_count max_list s at) → a ≡ Refused t p → NotesInits s owner o skip n n o at names enums
+pub inits_refused : (s names enums : List ℕ) (at owner : ℕ) {o : List ℕ} {skip n : ℕ} {a : Result (ℕ × Cursor) Refusal} {t : Refusal} → a ≡ answer (read_count max_list s at) → a ≡ Err t → NotesInits s owner o skip n n o at names enums
 inits_refused s names enums at owner {o} {skip} {n} e q = record {
   of = λ vs env g h. walk_refused read_var_decl (meant_inits s names enums) s max_list at owner o skip n e q vs g;
 }
@@ -107,7 +106,7 @@ module _ (s names enums : List ℕ) (at owner : ℕ) {o : List ℕ} {skip n coun
   inits_done b = record { of = λ vs env g a. walk_done read_var_decl (meant_inits s names enums) s max_list at owner o skip n w b (env, a) vs g }
 
 -- one after another
-module _ (s : List ℕ) (owner : ℕ) {o o₁ o₂ o₃ o' : List ℕ} {skip n a b c r : ℕ} {places : List ℕ} {found : Found} {moves bare : Bool} {names enums : List ℕ} {p₁ p₄ p₇ : ℕ} where
+module _ (s : List ℕ) (owner : ℕ) {o o₁ o₂ o₃ o' : List ℕ} {skip n a b c r : ℕ} {places : List ℕ} {found : Maybe ℕ} {moves bare : Bool} {names enums : List ℕ} {p₁ p₄ p₇ : ℕ} where
   pub opening_noted : NoStates s found bare → Noted owner o skip n (noted bare (note 1 0 0 0)) a o₁ → p₄ ≡ get_or places 4 0 → NotesInitial s owner o₁ skip a b o₂ found p₄ moves → p₁ ≡ get_or places 1 0 → NotesVersion s owner o₂ skip b c o₃ p₁ → p₇ ≡ get_or places 7 0 → NotesInits s owner o₃ skip c r o' p₇ names enums → NotesOpening s owner o skip n r o' places found moves names enums
   unfolding opening
   opening_noted e p i q j u k v = record {

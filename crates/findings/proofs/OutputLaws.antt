@@ -1,4 +1,5 @@
 -- What is noted of an output: the number of what is wrong with it tells whether there is anything.
+use Rattle.std.specs.Prelude.{Result, ⊤}
 use Prim.Native.Nat.{ℕ}
 use mathlib.Core.Path.{◌≡◌, ap, ◌∙◌}
 use mathlib.Core.List.{List}
@@ -13,7 +14,7 @@ use Rattle.findings.specs.Noting.{Noted, numbered}
 use Rattle.findings.specs.Promises.{NotesOutput}
 use Rattle.findings.proofs.NoteLaws.{note_as, blamed_numbered}
 
-module _ (s names enums : List ℕ) (owner : ℕ) {o o' : List ℕ} {skip n r at : ℕ} {outputs : List ℕ} {site first second : ℕ} {b : Blame} {c : ℕ} where
+module _ (s names enums : List ℕ) (owner : ℕ) {o o' : List ℕ} {skip n r at : ℕ} {outputs : List ℕ} {site first second : ℕ} {b : Result ⊤ Blame} {c : ℕ} where
   pub output_noted : JudgesOutput (env_at s names enums) s at outputs b → c ≡ blame_word (blame_of s b) → Noted owner o skip n (numbered site first second c) r o' → NotesOutput s owner o skip n r o' at outputs names enums site first second
   output_noted j e p = record {
     of = λ x gs env h g a.

@@ -1,16 +1,15 @@
 -- Prints: of parts of the document, and of each transition while the table is filled.
-use Prim.Native.Nat.{ℕ, suc, ◌+◌, ◌-◌, ◌*◌, ◌<◌, ◌≤◌}
-use mathlib.Core.Path.{◌≡◌, refl, sym, ap, ◌∙◌}
+use Prim.Native.Nat.{ℕ, suc, ◌+◌, ◌*◌, ◌<◌, ◌≤◌}
+use mathlib.Core.Path.{◌≡◌, refl, ap, ◌∙◌}
 use mathlib.Core.List.{List, [], ◌∷◌}
 use mathlib.Core.Logic.{◌≢◌}
 use mathlib.Core.Option.{some}
 use native.Mathlib.Omega.{arith}
 use native.Mathlib.Decide.{ℕ_discrete}
-use lib.ListN.{length, take, drop, get_or, get_elem?, set, length-set, length-drop, drop_of_length-le}
-use lib.Seq.{sets, length-sets, take-nil, take_all, get_or-set_same, get_or-set_other}
+use lib.ListN.{length, get_or, get_elem?, set, length-set}
+use lib.Seq.{sets, length-sets, get_or-set_same, get_or-set_other}
 use Rattle.reading.specs.Transition.{Transition}
 use Rattle.reading.specs.Skip.{text_at}
-use Rattle.reading.specs.Views.{span}
 use Rattle.reading.proofs.ListViews.{spanned}
 use Rattle.reading.proofs.Walks.{name_text}
 use Rattle.reading.proofs.PatternLaws.{pattern_laws}
@@ -20,20 +19,6 @@ use Rattle.findings.specs.Prints.{key_of, PrintOf}
 use Rattle.findings.specs.Parts.{prints_of, PrintPart, Ranked, KeyPrint, PrintedRow}
 use Rattle.findings.specs.PairPromises.{Printed}
 use Rattle.findings.proofs.PlaceLaws.{entry_below}
-
--- a part that has no bytes, one that the document ends, and one inside
-module _ (s : List ℕ) (from to : ℕ) where
-  pub span_back : to ≤ from → [] ≡ span s from to
-  span_back h = let z : to - from ≡ 0 = omega arith in rw z
-
-  pub span_past : length s ≤ from → [] ≡ span s from to
-  span_past h = rw (drop_of_length-le s h, take-nil)
-
-  pub span_cut : {n : ℕ} → n ≡ length s → n < to → take (n - from) (drop from s) ≡ span s from to
-  span_cut {n} e h =
-      let a : length (drop from s) ≤ n - from = omega (arith, length-drop from s) in
-      let b : length (drop from s) ≤ to - from = omega (arith, length-drop from s) in
-      take_all (n - from) (drop from s) a ∙ sym (take_all (to - from) (drop from s) b)
 
 -- of what is handed out
 pub print_as : (h : ℕ) (x y : List ℕ) {r : ℕ} → r ≡ print h x → x ≡ y → r ≡ print h y

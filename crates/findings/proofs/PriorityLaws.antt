@@ -14,17 +14,16 @@ use Rattle.reading.specs.Combine.{optional}
 use Rattle.reading.specs.Link.{answer}
 use Rattle.reading.specs.Views.{OptionAt, absent, present}
 use Rattle.reading.specs.declared.cursor.Cursor.{Cursor}
-use Rattle.reading.specs.declared.fault.Fault.{Fault}
-use Rattle.reading.specs.declared.item.Answer.{Answer}
-use Rattle.reading.specs.declared.item.Answer.TheVariants.{Got, Refused}
 use Rattle.reading.proofs.Rules.{no}
-use Rattle.reading.proofs.Answers.{num, out}
+use Rattle.reading.proofs.Answers.{got, out}
 use Rattle.reading.proofs.ListViews.{option_at}
 use Rattle.findings.specs.Scene.{field, Reads}
 use Rattle.findings.specs.Prints.{ranked}
 use Rattle.findings.specs.Parts.{Ranked}
 use Rattle.findings.specs.Classes.{bare, Bare}
 use Rattle.findings.specs.PairSteps.{PriorityAt, SamePriority}
+use Rattle.std.specs.Prelude.{Result, Ok, Err}
+use Rattle.reading.specs.declared.fault.Refusal.{Refusal}
 
 module _ (s : List ℕ) where
   abbrev Priority : ℕ → Option ℕ → Type 0
@@ -47,11 +46,11 @@ module _ (s : List ℕ) where
       by (absent h k) = absurd (eqb-false (get_or s p 0) 246 e h)
       by (present {x} h k) = (x, refl, k)
 
-  module _ {at : ℕ} {a : Answer} (e : a ≡ answer (read_number max_u32 s at)) where
-    pub priority_got : {v : ℕ} {c : Cursor} → a ≡ Got v c → PriorityAt s at v
-    priority_got q = record { of = λ w n h. let x = num _ e q in cc }
+  module _ {at : ℕ} {a : Result (ℕ × Cursor) Refusal} (e : a ≡ answer (read_number max_u32 s at)) where
+    pub priority_got : {v : ℕ} {c : Cursor} → a ≡ Ok (v, c) → PriorityAt s at v
+    priority_got q = record { of = λ w n h. let x = got _ e q in cc }
 
-    pub priority_none : {f : Fault} {p : ℕ} (r : ℕ) → a ≡ Refused f p → PriorityAt s at r
+    pub priority_none : {f : Refusal} (r : ℕ) → a ≡ Err f → PriorityAt s at r
     priority_none r q = record { of = λ w n h. no (let x = out _ e q in cc) }
 
   -- a print with a priority

@@ -11,25 +11,22 @@ use borrow.Author.Tests.{lt-ltb, le-ltb}
 use Rattle.reading.specs.Read.{Read, ok, refused}
 use Rattle.reading.specs.Module.{Ir}
 use Rattle.reading.specs.Document.{read_document}
-use Rattle.reading.specs.Link.{verdict}
-use Rattle.reading.specs.declared.Verdict.{Verdict}
-use Rattle.reading.specs.declared.Verdict.TheVariants as verdict
-use Rattle.reading.specs.declared.fault.Fault.{Fault}
+use Rattle.reading.specs.Link.{verdict, refusal}
 use Rattle.reading.proofs.Rules.{no}
 use Rattle.reading.proofs.Views.{document_at}
-use Rattle.findings.specs.Finding.{Finding, words}
+use Rattle.findings.specs.Finding.{Finding}
 use Rattle.findings.specs.Findings.{all_errors, all_warnings, findings}
 use Rattle.findings.specs.Sheet.{put}
 use Rattle.findings.specs.Walks.{WalksAll, Walked, PutsErrors, PutsWarnings, PutsAll, PutsKept, Replies, ByKind, Lines, WarningLine}
-use Rattle.findings.specs.Reply.{too_many_findings, reply_to, sheet_of, counts_to, errors_in, warnings_in, counted, line_of, line_to}
-use Rattle.findings.specs.declared.whole.Totals.{Totals}
-use Rattle.findings.specs.declared.reply.Reply.{Reply}
-use Rattle.findings.specs.declared.reply.Reply.TheVariants.{Counts, Refused, Short}
-use Rattle.findings.specs.declared.reply.Line.{Line}
-use Rattle.findings.specs.declared.reply.Line.TheVariants as line
+use Rattle.findings.specs.Reply.{Reply, Line, too_many_findings, reply_to, sheet_of, counts_to, errors_in, warnings_in, counted, line_to}
+use Rattle.findings.specs.declared.reply.Counts.{Counts}
+use Rattle.findings.specs.declared.reply.Denied.TheVariants.{Refused, Short}
+use Rattle.findings.specs.declared.reply.Absent.TheVariants as absent
 use Rattle.findings.proofs.SheetLaws.{put_append, put_whole, copied, none, put_kth}
-
 -- written by another walk, and copied
+use Rattle.std.specs.Prelude.{Ok, Err}
+use Rattle.reading.specs.declared.fault.Refusal.{Refusal}
+
 module _ (s kept o o' : List ℕ) {a : ℕ} where
   pub errors_walked : {p p' : List ℕ} {b c : ℕ} → WalksAll s o 0 0 c o' p 0 0 b p' → PutsErrors s kept a o o'
   errors_walked t = record { of = λ x n g q w. (t.of x n (document_at s x n g)).errors_are.buffer }
@@ -75,16 +72,16 @@ module _ (s : List ℕ) {e e' w w' : List ℕ} {a b : ℕ} (t : WalksAll s e 0 0
         ∙ ap (λ (y : ℕ). put (put o 0 0 (all_errors x)) 0 y (all_warnings x)) z
         ∙ put_append o 0 0 (all_errors x) (all_warnings x)
 
-  reply_short : (o : List ℕ) → length o < 5 * (a + b) → Replies s o (Short (a + b)) o
+  reply_short : (o : List ℕ) → length o < 5 * (a + b) → Replies s o (Err (Short (a + b))) o
   unfolding reply_to sheet_of too_many_findings
   reply_short o h = record {
     of = λ x n g.
         let c = both_counted x n g in
         let l : ltb (length o) (5 * length (findings x)) ≡ true = lt-ltb (length o) (5 * length (findings x)) (omega arith) in
-        (rw l (ap Short c), rw l);
+        (rw l (ap (λ (k : ℕ). Err (Short k)) c), rw l);
   }
 
-  reply_written : (o o₁ o₂ : List ℕ) → 5 * (a + b) ≤ length o → PutsErrors s e' a o o₁ → PutsWarnings s w' a b o₁ o₂ → Replies s o (Counts a b) o₂
+  reply_written : (o o₁ o₂ : List ℕ) → 5 * (a + b) ≤ length o → PutsErrors s e' a o o₁ → PutsWarnings s w' a b o₁ o₂ → Replies s o (Ok (record { errors = a; warnings = b })) o₂
   unfolding reply_to sheet_of too_many_findings
   reply_written o o₁ o₂ h u v = record {
     of = λ x n g.
@@ -98,22 +95,22 @@ module _ (s : List ℕ) {e e' w w' : List ℕ} {a b : ℕ} (t : WalksAll s e 0 0
   }
 
 -- from what a walk kept
-module _ (s e' w' : List ℕ) (t : Totals) where
-  pub all_short : (o : List ℕ) → length o < 5 * (t.errors + t.warnings) → PutsAll s e' w' t o (Short (t.errors + t.warnings)) o
+module _ (s e' w' : List ℕ) (t : Counts) where
+  pub all_short : (o : List ℕ) → length o < 5 * (t.errors + t.warnings) → PutsAll s e' w' t o (Err (Short (t.errors + t.warnings))) o
   all_short o h = record { of = λ e w z. reply_short s z o h }
 
-  pub all_written : (o o₁ o₂ : List ℕ) → 5 * (t.errors + t.warnings) ≤ length o → PutsErrors s e' t.errors o o₁ → PutsWarnings s w' t.errors t.warnings o₁ o₂ → PutsAll s e' w' t o (Counts t.errors t.warnings) o₂
+  pub all_written : (o o₁ o₂ : List ℕ) → 5 * (t.errors + t.warnings) ≤ length o → PutsErrors s e' t.errors o o₁ → PutsWarnings s w' t.errors t.warnings o₁ o₂ → PutsAll s e' w' t o (Ok t) o₂
   all_written o o₁ o₂ h u v = record { of = λ e w z. reply_written s z o o₁ o₂ h u v }
 
   pub all_put : {e w o o' : List ℕ} {r : Reply} → WalksAll s e 0 0 t.errors e' w 0 0 t.warnings w' → PutsAll s e' w' t o r o' → Replies s o r o'
   all_put z p = p.of _ _ z
 
 -- where it kept all
-module _ (e' w' : List ℕ) (t : Totals) where
-  pub kept_short : (o : List ℕ) → length o < 5 * t.errors + 5 * t.warnings → PutsKept e' w' t o (Short (t.errors + t.warnings)) o
+module _ (e' w' : List ℕ) (t : Counts) where
+  pub kept_short : (o : List ℕ) → length o < 5 * t.errors + 5 * t.warnings → PutsKept e' w' t o (Err (Short (t.errors + t.warnings))) o
   kept_short o h = record { of = λ s. all_short s e' w' t o (omega arith) }
 
-  pub kept_written : {o o₁ o₂ : List ℕ} → o₁ ≡ paste o 0 e' (5 * t.errors) → o₂ ≡ paste o₁ (5 * t.errors) w' (5 * t.warnings) → 5 * t.errors ≤ length e' → 5 * t.warnings ≤ length w' → 5 * t.errors + 5 * t.warnings ≤ length o → length o₁ ≡ length o → PutsKept e' w' t o (Counts t.errors t.warnings) o₂
+  pub kept_written : {o o₁ o₂ : List ℕ} → o₁ ≡ paste o 0 e' (5 * t.errors) → o₂ ≡ paste o₁ (5 * t.errors) w' (5 * t.warnings) → 5 * t.errors ≤ length e' → 5 * t.warnings ≤ length w' → 5 * t.errors + 5 * t.warnings ≤ length o → length o₁ ≡ length o → PutsKept e' w' t o (Ok t) o₂
   kept_written {o} {o₁} {o₂} u v h i l m = record {
     of = λ s. all_written s e' w' t o o₁ o₂ (omega arith) (errors_copied s e' o o₁ h (omega arith) u) (warnings_copied s w' o₁ o₂ i (omega arith) v);
   }
@@ -122,86 +119,89 @@ module _ (e' w' : List ℕ) (t : Totals) where
   kept_put {s} z p = (p.of s).of _ _ z
 
 -- the document's verdict
-module _ (s o : List ℕ) {v : Verdict} (e : v ≡ verdict (read_document s)) where
-  both_refused : {f : Fault} {p : ℕ} → v ≡ verdict.Refused f p → (Refused f p ≡ reply_to o (read_document s)) × (o ≡ sheet_of o (read_document s))
-  unfolding verdict reply_to sheet_of
-  both_refused {f} {p} q = go (read_document s) (sym q ∙ e)
-    where
-      go : (m : Read Ir) → verdict.Refused f p ≡ verdict m → (Refused f p ≡ reply_to o m) × (o ≡ sheet_of o m)
-      go (ok x n) z = no (cc)
-      go (refused g k) z = let a : f ≡ g = cc in let b : p ≡ k = cc in (rw (a, b), refl)
+module _ (s o : List ℕ) where
+  module _ {f : Refusal} (e : Err f ≡ verdict (read_document s)) where
+    both_refused : (Err (Refused f) ≡ reply_to o (read_document s)) × (o ≡ sheet_of o (read_document s))
+    unfolding verdict reply_to sheet_of
+    both_refused = go (read_document s) e
+      where
+        go : (m : Read Ir) → Err f ≡ verdict m → (Err (Refused f) ≡ reply_to o m) × (o ≡ sheet_of o m)
+        go (ok x n) z = no (cc)
+        go (refused g k) z = let a : f ≡ refusal g k = cc in (rw a, refl)
 
-  pub refused_reply : {f : Fault} {p : ℕ} → v ≡ verdict.Refused f p → Refused f p ≡ reply_to o (read_document s)
-  refused_reply q = (both_refused q).0
+    pub refused_reply : Err (Refused f) ≡ reply_to o (read_document s)
+    refused_reply = both_refused.0
 
-  pub refused_sheet : {f : Fault} {p : ℕ} → v ≡ verdict.Refused f p → o ≡ sheet_of o (read_document s)
-  refused_sheet q = (both_refused q).1
+    pub refused_sheet : o ≡ sheet_of o (read_document s)
+    refused_sheet = both_refused.1
 
-  both_accepted : (r : Reply) (o' : List ℕ) → v ≡ verdict.Accepted → Replies s o r o' → (r ≡ reply_to o (read_document s)) × (o' ≡ sheet_of o (read_document s))
-  unfolding verdict
-  both_accepted r o' q t = go (read_document s) refl (sym q ∙ e)
-    where
-      go : (m : Read Ir) → read_document s ≡ m → verdict.Accepted ≡ verdict m → (r ≡ reply_to o (read_document s)) × (o' ≡ sheet_of o (read_document s))
-      go (ok x n) g z = let u = t.of x n g in (u.0 ∙ ap (reply_to o) (sym g), u.1 ∙ ap (sheet_of o) (sym g))
-      go (refused g k) h z = no (cc)
+  module _ (e : Ok tt ≡ verdict (read_document s)) {r : Reply} {o' : List ℕ} (t : Replies s o r o') where
+    both_accepted : (r ≡ reply_to o (read_document s)) × (o' ≡ sheet_of o (read_document s))
+    unfolding verdict
+    both_accepted = go (read_document s) refl e
+      where
+        go : (m : Read Ir) → read_document s ≡ m → Ok tt ≡ verdict m → (r ≡ reply_to o (read_document s)) × (o' ≡ sheet_of o (read_document s))
+        go (ok x n) g z = let u = t.of x n g in (u.0 ∙ ap (reply_to o) (sym g), u.1 ∙ ap (sheet_of o) (sym g))
+        go (refused g k) h z = no (cc)
 
-  pub accepted_reply : (r : Reply) (o' : List ℕ) → v ≡ verdict.Accepted → Replies s o r o' → r ≡ reply_to o (read_document s)
-  accepted_reply r o' q t = (both_accepted r o' q t).0
+    pub accepted_reply : r ≡ reply_to o (read_document s)
+    accepted_reply = both_accepted.0
 
-  pub accepted_sheet : (r : Reply) (o' : List ℕ) → v ≡ verdict.Accepted → Replies s o r o' → o' ≡ sheet_of o (read_document s)
-  accepted_sheet r o' q t = (both_accepted r o' q t).1
+    pub accepted_sheet : o' ≡ sheet_of o (read_document s)
+    accepted_sheet = both_accepted.1
 
 -- errors and warnings in words of their own
-module _ (s : List ℕ) {e e' w w' : List ℕ} {a b : ℕ} where
-  pub by_kind : WalksAll s e 0 0 a e' w 0 0 b w' → ByKind s e w (Counts a b) e' w'
+module _ (s : List ℕ) {e e' w w' : List ℕ} {t : Counts} where
+  pub by_kind : WalksAll s e 0 0 t.errors e' w 0 0 t.warnings w' → ByKind s e w t e' w'
   unfolding counts_to errors_in warnings_in
-  by_kind t = record {
+  by_kind z = record {
     of = λ x n g.
-        let u = t.of x n (document_at s x n g) in
+        let u = z.of x n (document_at s x n g) in
         let p = u.errors_are.count in
         let q = u.warnings_are.count in
-        let i : a ≡ length (all_errors x) = omega arith in
-        let j : b ≡ length (all_warnings x) = omega arith in
+        let i : t.errors ≡ length (all_errors x) = omega arith in
+        let j : t.warnings ≡ length (all_warnings x) = omega arith in
         (rw (i, j), u.errors_are.buffer, u.warnings_are.buffer);
   }
 
 -- a walk counts at most so many of each kind
-pub counted_few : {a b : ℕ} → a ≤ 532733824 → b ≤ 531656640 → counted (Counts a b) ≤ 1064390464
+pub counted_few : (t : Counts) → t.errors + t.warnings ≤ 1064390464 → counted (Ok t) ≤ 1064390464
 unfolding counted
-counted_few h i = omega arith
+counted_few t h = h
 
-pub counted_none : (f : Fault) (p : ℕ) → counted (Refused f p) ≤ 1064390464
+pub counted_none : (f : Refusal) → counted (Err f) ≤ 1064390464
 unfolding counted
-counted_none f p = omega arith
+counted_none f = omega arith
 
-module _ (s e w : List ℕ) {v : Verdict} (h : v ≡ verdict (read_document s)) where
-  kinds_refused : {f : Fault} {p : ℕ} → v ≡ verdict.Refused f p → (Refused f p ≡ counts_to (read_document s)) × (e ≡ errors_in e (read_document s)) × (w ≡ warnings_in w (read_document s))
-  unfolding verdict counts_to errors_in warnings_in
-  kinds_refused {f} {p} q = go (read_document s) (sym q ∙ h)
-    where
-      go : (m : Read Ir) → verdict.Refused f p ≡ verdict m → (Refused f p ≡ counts_to m) × (e ≡ errors_in e m) × (w ≡ warnings_in w m)
-      go (ok x n) z = no (cc)
-      go (refused g k) z = let a : f ≡ g = cc in let b : p ≡ k = cc in (rw (a, b), refl, refl)
-
-  pub refused_counts : {f : Fault} {p : ℕ} → v ≡ verdict.Refused f p → Refused f p ≡ counts_to (read_document s)
-  refused_counts q = (kinds_refused q).0
-
-  pub refused_errors : {f : Fault} {p : ℕ} → v ≡ verdict.Refused f p → e ≡ errors_in e (read_document s)
-  refused_errors q = (kinds_refused q).1
-
-  pub refused_warnings : {f : Fault} {p : ℕ} → v ≡ verdict.Refused f p → w ≡ warnings_in w (read_document s)
-  refused_warnings q = (kinds_refused q).2
-
-  module _ {r : Reply} {e' w' : List ℕ} (q : v ≡ verdict.Accepted) (t : ByKind s e w r e' w') where
-    kinds_accepted : (r ≡ counts_to (read_document s)) × (e' ≡ errors_in e (read_document s)) × (w' ≡ warnings_in w (read_document s))
-    unfolding verdict
-    kinds_accepted = go (read_document s) refl (sym q ∙ h)
+module _ (s e w : List ℕ) where
+  module _ {f : Refusal} (h : Err f ≡ verdict (read_document s)) where
+    kinds_refused : (Err f ≡ counts_to (read_document s)) × (e ≡ errors_in e (read_document s)) × (w ≡ warnings_in w (read_document s))
+    unfolding verdict counts_to errors_in warnings_in
+    kinds_refused = go (read_document s) h
       where
-        go : (m : Read Ir) → read_document s ≡ m → verdict.Accepted ≡ verdict m → (r ≡ counts_to (read_document s)) × (e' ≡ errors_in e (read_document s)) × (w' ≡ warnings_in w (read_document s))
+        go : (m : Read Ir) → Err f ≡ verdict m → (Err f ≡ counts_to m) × (e ≡ errors_in e m) × (w ≡ warnings_in w m)
+        go (ok x n) z = no (cc)
+        go (refused g k) z = let a : f ≡ refusal g k = cc in (rw a, refl, refl)
+
+    pub refused_counts : Err f ≡ counts_to (read_document s)
+    refused_counts = kinds_refused.0
+
+    pub refused_errors : e ≡ errors_in e (read_document s)
+    refused_errors = kinds_refused.1
+
+    pub refused_warnings : w ≡ warnings_in w (read_document s)
+    refused_warnings = kinds_refused.2
+
+  module _ (h : Ok tt ≡ verdict (read_document s)) {r : Counts} {e' w' : List ℕ} (t : ByKind s e w r e' w') where
+    kinds_accepted : (Ok r ≡ counts_to (read_document s)) × (e' ≡ errors_in e (read_document s)) × (w' ≡ warnings_in w (read_document s))
+    unfolding verdict
+    kinds_accepted = go (read_document s) refl h
+      where
+        go : (m : Read Ir) → read_document s ≡ m → Ok tt ≡ verdict m → (Ok r ≡ counts_to (read_document s)) × (e' ≡ errors_in e (read_document s)) × (w' ≡ warnings_in w (read_document s))
         go (ok x n) g z = let u = t.of x n g in (u.0 ∙ ap counts_to (sym g), u.1 ∙ ap (errors_in e) (sym g), u.2 ∙ ap (warnings_in w) (sym g))
         go (refused g k) z y = no (cc)
 
-    pub accepted_counts : r ≡ counts_to (read_document s)
+    pub accepted_counts : Ok r ≡ counts_to (read_document s)
     accepted_counts = kinds_accepted.0
 
     pub accepted_errors : e' ≡ errors_in e (read_document s)
@@ -219,14 +219,6 @@ get_d_front (x ∷ xs) ys (suc k) d h = get_d_front xs ys k d (omega arith)
 get_or_back : (xs ys : List Finding) (k j : ℕ) (d : Finding) → k ≡ length xs + j → get_or (xs ++ ys) k d ≡ get_or ys j d
 get_or_back xs ys k j d e = ap (λ (i : ℕ). get_or (xs ++ ys) i d) e ∙ get_or-append-add xs ys j d
 
--- the five words that a buffer holds
-abbrev pub words_of : List ℕ → Line
-words_of o = line.Words (get_or o 0 0) (get_or o 1 0) (get_or o 2 0) (get_or o 3 0) (get_or o 4 0)
-
-words_line : (o : List ℕ) (f : Finding) → o ≡ words f → words_of o ≡ line_of f
-unfolding line_of
-words_line o f e = rw e
-
 module _ (s : List ℕ) (k : ℕ) {e e' w w' : List ℕ} {a b : ℕ} (t : WalksAll s e k 0 a e' w 0 0 b w') where
   sizes : (x : Ir) (n : ℕ) → read_document s ≡ ok x n → (a ≡ length (all_errors x)) × (a + b ≡ length (findings x))
   unfolding findings
@@ -236,7 +228,7 @@ module _ (s : List ℕ) (k : ℕ) {e e' w w' : List ℕ} {a b : ℕ} (t : WalksA
       let q = u.warnings_are.count in
       (omega arith, omega (arith, length-append (all_errors x) (all_warnings x)))
 
-  pub line_error : length e ≡ 5 → k < a → Lines s k (words_of e')
+  pub line_error : length e ≡ 5 → k < a → Lines s k (Ok e')
   unfolding line_to findings
   line_error l h = record {
     of = λ x n g.
@@ -244,16 +236,16 @@ module _ (s : List ℕ) (k : ℕ) {e e' w w' : List ℕ} {a b : ℕ} (t : WalksA
         let z = sizes x n g in
         let c = z.1 in
         let y : ltb k (length (all_errors x ++ all_warnings x)) ≡ true = lt-ltb k (length (all_errors x ++ all_warnings x)) (omega arith) in
-        rw (y, get_d_front (all_errors x) (all_warnings x) k none (omega (arith, z.0))) (words_line e' (get_or (all_errors x) k none) (u.buffer ∙ put_kth (all_errors x) e k 0 k l (omega arith) (omega (arith, z.0))));
+        rw (y, get_d_front (all_errors x) (all_warnings x) k none (omega (arith, z.0))) (ap Ok (u.buffer ∙ put_kth (all_errors x) e k 0 k l (omega arith) (omega (arith, z.0))));
   }
 
-  pub line_missing : a + b ≤ k → Lines s k (line.Missing (a + b))
+  pub line_missing : a + b ≤ k → Lines s k (Err (absent.Missing (a + b)))
   unfolding line_to
   line_missing h = record {
     of = λ x n g.
         let c = (sizes x n g).1 in
         let y : ltb k (length (findings x)) ≡ false = le-ltb k (length (findings x)) (omega arith) in
-        rw y (ap line.Missing c);
+        rw y (ap (λ (i : ℕ). Err (absent.Missing i)) c);
   }
 
   pub line_after : {r : Line} → a ≤ k → k < a + b → WarningLine s k a r → Lines s k r
@@ -264,29 +256,29 @@ module _ (s : List ℕ) (k : ℕ) {e e' w w' : List ℕ} {a b : ℕ} (t : WalksA
         v.of x n g z.0 h (omega arith);
   }
 
-pub warning_line : (s : List ℕ) (k : ℕ) {f f' p p' : List ℕ} {a c d : ℕ} → length p ≡ 5 → WalksAll s f 0 0 c f' p k a d p' → WarningLine s k a (words_of p')
+pub warning_line : (s : List ℕ) (k : ℕ) {f f' p p' : List ℕ} {a c d : ℕ} → length p ≡ 5 → WalksAll s f 0 0 c f' p k a d p' → WarningLine s k a (Ok p')
 unfolding line_to findings
 warning_line s k {p} {p'} {a} l v = record {
   of = λ x n g e h i.
       let u = (v.of x n (document_at s x n g)).warnings_are in
       let m = length-append (all_errors x) (all_warnings x) in
       let y : ltb k (length (all_errors x ++ all_warnings x)) ≡ true = lt-ltb k (length (all_errors x ++ all_warnings x)) i in
-      rw (y, get_or_back (all_errors x) (all_warnings x) k (k - a) none (omega arith)) (words_line p' (get_or (all_warnings x) (k - a) none) (u.buffer ∙ put_kth (all_warnings x) p k a (k - a) l (omega arith) (omega arith)));
+      rw (y, get_or_back (all_errors x) (all_warnings x) k (k - a) none (omega arith)) (ap Ok (u.buffer ∙ put_kth (all_warnings x) p k a (k - a) l (omega arith) (omega arith)));
 }
 
-module _ (s : List ℕ) (k : ℕ) {v : Verdict} (e : v ≡ verdict (read_document s)) where
-  pub line_refused : {f : Fault} {p : ℕ} → v ≡ verdict.Refused f p → line.Refused f p ≡ line_to k (read_document s)
+module _ (s : List ℕ) (k : ℕ) where
+  pub line_refused : {f : Refusal} → Err f ≡ verdict (read_document s) → Err (absent.Refused f) ≡ line_to k (read_document s)
   unfolding verdict line_to
-  line_refused {f} {p} q = go (read_document s) (sym q ∙ e)
+  line_refused {f} e = go (read_document s) e
     where
-      go : (m : Read Ir) → verdict.Refused f p ≡ verdict m → line.Refused f p ≡ line_to k m
+      go : (m : Read Ir) → Err f ≡ verdict m → Err (absent.Refused f) ≡ line_to k m
       go (ok x n) z = no (cc)
-      go (refused g j) z = let a : f ≡ g = cc in let b : p ≡ j = cc in rw (a, b)
+      go (refused g j) z = let a : f ≡ refusal g j = cc in rw a
 
-  pub line_accepted : (r : Line) → v ≡ verdict.Accepted → Lines s k r → r ≡ line_to k (read_document s)
+  pub line_accepted : {r : Line} → Ok tt ≡ verdict (read_document s) → Lines s k r → r ≡ line_to k (read_document s)
   unfolding verdict
-  line_accepted r q t = go (read_document s) refl (sym q ∙ e)
+  line_accepted {r} e t = go (read_document s) refl e
     where
-      go : (m : Read Ir) → read_document s ≡ m → verdict.Accepted ≡ verdict m → r ≡ line_to k (read_document s)
+      go : (m : Read Ir) → read_document s ≡ m → Ok tt ≡ verdict m → r ≡ line_to k (read_document s)
       go (ok x n) g z = t.of x n g ∙ ap (line_to k) (sym g)
       go (refused g j) h z = no (cc)

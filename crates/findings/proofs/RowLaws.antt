@@ -10,17 +10,16 @@ use Rattle.reading.specs.Limits.{max_list}
 use Rattle.reading.specs.Item.{read_count}
 use Rattle.reading.specs.Link.{answer}
 use Rattle.reading.specs.declared.cursor.Cursor.{Cursor}
-use Rattle.reading.specs.declared.fault.Fault.{Fault}
-use Rattle.reading.specs.declared.item.Answer.{Answer}
-use Rattle.reading.specs.declared.item.Answer.TheVariants.{Got, Refused}
 use Rattle.reading.proofs.Rules.{no}
-use Rattle.reading.proofs.Answers.{num, out}
+use Rattle.reading.proofs.Answers.{got, out}
 use Rattle.reading.proofs.ItemLaws.{count_kind}
 use Rattle.typing.specs.Table.{after_item, after_head, Past}
 use Rattle.findings.specs.Scene.{row_from, end_from, row_at, row_end, rows_from, rows_end, rows_of, rows_at, RowsFilled, Reads}
 use Rattle.findings.specs.declared.rows.Listed.{Listed}
-
 -- what reads at a place reads at that place by another name
+use Rattle.std.specs.Prelude.{Result, Ok, Err}
+use Rattle.reading.specs.declared.fault.Refusal.{Refusal}
+
 pub moved : {A : Type 0} {F : Reader A} {s : List ℕ} {a b : ℕ} {x : A} → a ≡ b → Reads F s b x → Reads F s a x
 moved {F} {s} {x} e g = subst (λ (k : ℕ). Reads F s k x) (sym e) g
 
@@ -67,54 +66,53 @@ pub sets_append : (o : List ℕ) (j : ℕ) (xs ys : List ℕ) → sets o j (xs +
 sets_append o j [] ys = ap (λ (n : ℕ). sets o n ys) (omega arith)
 sets_append o j (x ∷ xs) ys = sets_append (set o j x) (suc j) xs ys ∙ ap (λ (n : ℕ). sets (sets (set o j x) (suc j) xs) n ys) (omega arith)
 
--- so many transitions are left, the next at k; its row goes to word j
+-- i transitions are done, the next stands at k; its row goes to word 8 * i
 module _ (s : List ℕ) (at : ℕ) (table : List ℕ) where
-  pub record RowsLeft (count left k j : ℕ) (now : List ℕ) : Type 0 where
+  pub record RowsLeft (count i k : ℕ) (now : List ℕ) : Type 0 where
     pub first : ℕ
     pub opens : read_count max_list s at ≡ ok count first
     pub most : count ≤ 255
-    pub few : j + 8 * left ≡ 8 * count
     pub size : length now ≡ length table
-    pub rest : sets now j (rows_from left s k) ≡ sets table 0 (rows_at s at)
-    pub end : rows_end left s k ≡ rows_end count s first
+    pub rest : sets now (8 * i) (rows_from (count - i) s k) ≡ sets table 0 (rows_at s at)
+    pub end : rows_end (count - i) s k ≡ rows_end count s first
 
-  module _ {a : Answer} (e : a ≡ answer (read_count max_list s at)) where
-    pub rows_refused : {f : Fault} {p : ℕ} (r : Listed) → a ≡ Refused f p → RowsFilled s at table r table
+  module _ {a : Result (ℕ × Cursor) Refusal} (e : a ≡ answer (read_count max_list s at)) where
+    pub rows_refused : {f : Refusal} (r : Listed) → a ≡ Err f → RowsFilled s at table r table
     unfolding rows_at rows_of
     rows_refused r q =
         let w = out _ e q in
         record { words = rw w; of = λ c k g. no (cc) }
 
-    pub rows_start : {count : ℕ} {c : Cursor} → a ≡ Got count c → RowsLeft count count c.at 0 table
+    pub rows_start : {count : ℕ} {c : Cursor} → a ≡ Ok (count, c) → RowsLeft count 0 c.at table
     unfolding rows_at rows_of
     rows_start {count} {c} q =
-        let w = num _ e q in
+        let w = got _ e q in
         let m = count_kind s at max_list count c.at w in
         let o = m.1 in
-        record { first = c.at; opens = w; most = omega arith; few = omega arith; size = refl; rest = rw w; end = refl }
+        let sub0 : count - 0 ≡ count = omega arith in
+        record { first = c.at; opens = w; most = omega arith; size = refl; rest = rw (sub0, w); end = rw sub0 }
 
-  module _ {count left k j : ℕ} {now : List ℕ} (g : RowsLeft count left k j now) where
-    pub rows_more : {k' : ℕ} {now' : List ℕ} → 0 < left → (k' ≡ row_end 8 s k) × (now' ≡ sets now j (row_at 8 s k)) → RowsLeft count (left - 1) k' (j + 8) now'
+  module _ {count i k : ℕ} {now : List ℕ} (g : RowsLeft count i k now) where
+    pub rows_more : {k' : ℕ} {now' : List ℕ} → i < count → (k' ≡ row_end 8 s k) × (now' ≡ sets now (8 * i) (row_at 8 s k)) → RowsLeft count (i + 1) k' now'
     unfolding rows_from rows_end
     rows_more {k'} {now'} h p =
-        let z : left ≡ suc (left - 1) = omega arith in
-        let m = g.few in
-        let l : j + length (row_at 8 s k) ≡ j + 8 = ap (λ (n : ℕ). j + n) (row_length 8 s (after_head s k)) in
-        let u : sets now' (j + 8) (rows_from (left - 1) s k') ≡ sets table 0 (rows_at s at) = rw (p.1, p.0) (ap (λ (n : ℕ). sets (sets now j (row_at 8 s k)) n (rows_from (left - 1) s (row_end 8 s k))) (sym l) ∙ sym (sets_append now j (row_at 8 s k) (rows_from (left - 1) s (row_end 8 s k))) ∙ rw z at g.rest) in
+        let left = count - (i + 1) in
+        let z : count - i ≡ suc left = omega arith in
+        let l : 8 * i + length (row_at 8 s k) ≡ 8 * (i + 1) = omega (arith, row_length 8 s (after_head s k)) in
+        let u : sets now' (8 * (i + 1)) (rows_from left s k') ≡ sets table 0 (rows_at s at) = rw (p.1, p.0) (ap (λ (n : ℕ). sets (sets now (8 * i) (row_at 8 s k)) n (rows_from left s (row_end 8 s k))) (sym l) ∙ sym (sets_append now (8 * i) (row_at 8 s k) (rows_from left s (row_end 8 s k))) ∙ rw z at g.rest) in
         record {
           first = g.first;
           opens = g.opens;
           most = g.most;
-          few = omega arith;
-          size = ap length p.1 ∙ length-sets now j (row_at 8 s k) ∙ g.size;
+          size = ap length p.1 ∙ length-sets now (8 * i) (row_at 8 s k) ∙ g.size;
           rest = u;
-          end = ap (rows_end (left - 1) s) p.0 ∙ rw z at g.end;
+          end = ap (rows_end left s) p.0 ∙ rw z at g.end;
         }
 
-    pub rows_done : left ≤ 0 → RowsFilled s at table (record { count = count; end = k }) now
+    pub rows_done : count ≤ i → RowsFilled s at table (record { count = count; end = k }) now
     unfolding rows_from rows_end
     rows_done h =
-        let z : left ≡ 0 = omega arith in
+        let z : count - i ≡ 0 = omega arith in
         let w = rw z at g.end in
         let v = rw z at g.rest in
         record {

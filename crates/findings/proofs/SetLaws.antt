@@ -10,9 +10,6 @@ use Rattle.reading.specs.Text.{Name}
 use Rattle.reading.specs.Transition.{Assignment, read_top_expr, read_assignment}
 use Rattle.reading.specs.Skip.{text_at}
 use Rattle.reading.specs.Link.{answer}
-use Rattle.reading.specs.declared.fault.Fault.{Fault}
-use Rattle.reading.specs.declared.item.Answer.{Answer}
-use Rattle.reading.specs.declared.item.Answer.TheVariants.{Refused}
 use Rattle.reading.proofs.Rules.{no}
 use Rattle.reading.proofs.ExprLaws.{name_laws}
 use Rattle.reading.proofs.TransitionLaws.{assignment_laws}
@@ -21,8 +18,6 @@ use Rattle.reading.proofs.Walks.{name_text}
 use Rattle.typing.specs.Env.{Env, given, Agree}
 use Rattle.typing.specs.Table.{after_item, after_head, found, Past}
 use Rattle.typing.specs.Blocks.{find_in, env_at}
-use Rattle.typing.specs.declared.table.Found.{Found}
-use Rattle.typing.specs.declared.table.Found.TheVariants.{At, Nothing}
 use Rattle.typing.proofs.EnvLaws.{after_is, fields_head}
 use Rattle.findings.specs.Lists.{Placed}
 use Rattle.findings.specs.Finding.{Note, note}
@@ -31,24 +26,27 @@ use Rattle.findings.specs.Noting.{Noted}
 use Rattle.findings.specs.Promises.{Known, NotesTyped, NotesSet, NotesSets}
 use Rattle.findings.specs.Sets.{NotesFound}
 use Rattle.findings.proofs.EachLaws.{Walking, walk_refused, walk_more, walk_done}
+use Rattle.std.specs.Prelude.{Result, Option as Maybe, Some, None, Err}
+use Rattle.reading.specs.declared.fault.Refusal.{Refusal}
+use Rattle.reading.specs.declared.cursor.Cursor.{Cursor}
 
-given_nothing : (x : Option ℕ) → found x ≡ Nothing → given x ≡ false
+given_nothing : (x : Option ℕ) → found x ≡ None → given x ≡ false
 unfolding found given
 given_nothing none e = refl
 given_nothing (some k) e = no (cc)
 
-given_at : (x : Option ℕ) {k : ℕ} → found x ≡ At k → given x ≡ true
+given_at : (x : Option ℕ) {k : ℕ} → found x ≡ Some k → given x ≡ true
 unfolding found given
 given_at none e = no (cc)
 given_at (some k) e = refl
 
 -- by what was found under the name of the variable, which stands after the head
-module _ (s : List ℕ) (i j : ℕ) (names enums : List ℕ) (owner : ℕ) (o : List ℕ) (skip n : ℕ) {key : ℕ} {f : Found} where
-  pub set_unknown : {r : ℕ} {o' : List ℕ} → f ≡ Nothing → Noted owner o skip n (note 11 i j 0 ∷ []) r o' → NotesFound s owner o skip n r o' key f i j names enums
+module _ (s : List ℕ) (i j : ℕ) (names enums : List ℕ) (owner : ℕ) (o : List ℕ) (skip n : ℕ) {key : ℕ} {f : Maybe ℕ} where
+  pub set_unknown : {r : ℕ} {o' : List ℕ} → f ≡ None → Noted owner o skip n (note 11 i j 0 ∷ []) r o' → NotesFound s owner o skip n r o' key f i j names enums
   unfolding set_notes
   set_unknown q p = record { of = λ at a env x h g k e z. rw (z ∙ given_nothing x (sym e ∙ q)) p }
 
-  pub set_known : {x k r : ℕ} {o' : List ℕ} → f ≡ At x → Past s key k → NotesTyped s owner o skip n r o' k names enums 12 i j → NotesFound s owner o skip n r o' key f i j names enums
+  pub set_known : {x k r : ℕ} {o' : List ℕ} → f ≡ Some x → Past s key k → NotesTyped s owner o skip n r o' k names enums 12 i j → NotesFound s owner o skip n r o' key f i j names enums
   unfolding set_notes
   set_known {k} q l p = record {
     of = λ at a env x h g y e z.
@@ -78,8 +76,8 @@ module _ (s : List ℕ) (at i : ℕ) (vars names enums : List ℕ) (owner : ℕ)
   abbrev pub Sets : (count k j r : ℕ) → List ℕ → Type 0
   Sets count k j r o' = Walking read_assignment setting s max_list at owner o skip n count k j r o'
 
-  module _ {a : Answer} (e : a ≡ answer (read_count max_list s at)) where
-    pub sets_refused : {t : Fault} {p : ℕ} → a ≡ Refused t p → NotesSets s owner o skip n n o at i vars names enums
+  module _ {a : Result (ℕ × Cursor) Refusal} (e : a ≡ answer (read_count max_list s at)) where
+    pub sets_refused : {t : Refusal} → a ≡ Err t → NotesSets s owner o skip n n o at i vars names enums
     sets_refused q = record { of = λ xs env g k z. walk_refused read_assignment setting s max_list at owner o skip n e q xs g }
 
   module _ {count k j r : ℕ} {o' : List ℕ} (w : Sets count k j r o') where

@@ -5,8 +5,8 @@ use mathlib.Core.List.{List, [], ◌∷◌, ◌++◌, append_assoc, append-nil}
 use mathlib.Core.Bool.{Bool, true, false, cond}
 use native.Mathlib.Nat.{add-zero}
 use native.Mathlib.Omega.{arith}
-use lib.ListN.{length, get_or, set, take, drop, length-set, length-append, length-drop, drop_of_length-le, take-append-drop}
-use lib.Seq.{sets, sets-eq, length-sets, take_at, drop-append-add, drop-drop, paste, paste-zero, paste-suc, length-take-le}
+use lib.ListN.{length, get_or, take, drop, length-append, length-drop, drop_of_length-le, take-append-drop}
+use lib.Seq.{sets, sets-eq, length-sets, take_at, drop-append-add, drop-drop, paste, length-take-le}
 use lib.Dec.{leb}
 use borrow.Author.Tests.{le-leb, lt-leb}
 use Rattle.findings.specs.Finding.{note, Finding, in_module, words}
@@ -131,29 +131,6 @@ put_front (f ∷ fs) p q n e h =
 -- whole: from the front, and what is past stays
 pub put_whole : (fs : List Finding) (o : List ℕ) → 5 * length fs ≤ length o → put o 0 0 fs ≡ flat fs ++ drop (5 * length fs) o
 put_whole fs o h = put_front fs [] o 0 refl h
-
--- the first j words of kept are copied into o, from word w on
-pub record Copying (kept : List ℕ) (o : List ℕ) (w len j : ℕ) (now : List ℕ) : Type 0 where
-  pub is : now ≡ paste o w kept j
-  pub size : length now ≡ length o
-  pub most : j ≤ len
-
-module _ (kept o : List ℕ) (w len : ℕ) where
-  pub copy_start : Copying kept o w len 0 o
-  copy_start = record { is = paste-zero o w kept; size = refl; most = omega arith }
-
-  module _ {j : ℕ} {now : List ℕ} (g : Copying kept o w len j now) where
-    pub copy_more : j < len → len ≤ length kept → w + len ≤ length o → Copying kept o w len (j + 1) (set now (w + j) (get_or kept j 0))
-    copy_more h k m =
-        let e : j + 1 ≡ suc j = omega arith in
-        record {
-          is = ap (λ (x : List ℕ). set x (w + j) (get_or kept j 0)) g.is ∙ paste-suc o w kept j 0 (omega arith) (omega arith) ∙ ap (paste o w kept) (sym e);
-          size = length-set now (w + j) (get_or kept j 0) ∙ g.size;
-          most = omega arith;
-        }
-
-    pub copy_done : len ≤ j → now ≡ paste o w kept len
-    copy_done h = let m = g.most in let e : j ≡ len = omega arith in g.is ∙ ap (paste o w kept) e
 
 pub length_flat : (fs : List Finding) → length (flat fs) ≡ 5 * length fs
 unfolding flat

@@ -6,10 +6,10 @@ use mathlib.Core.Logic.{◌⊎◌, inl, inr}
 use mathlib.Core.Bool.{Bool, true, false, cond}
 use mathlib.Core.List.{List, [], ◌∷◌, ◌++◌}
 use native.Mathlib.Omega.{arith}
-use lib.ListN.{length, get_or, set, length-set, get_or-eq_default}
+use lib.ListN.{length, get_or, set, length-set}
 use lib.Seq.{get_or-set_same, get_or-set_other}
 use lib.Dec.{eqb, ltb}
-use borrow.Author.Tests.{eq-eqb, eqb-true, eqb-false, ltb-true, ltb-false}
+use borrow.Author.Tests.{eqb-true, eqb-false, ltb-true, ltb-false}
 use Rattle.reading.specs.Read.{ok, pick}
 use Rattle.reading.specs.Limits.{max_path}
 use Rattle.reading.specs.Item.{read_case, read_count, read_tag}
@@ -17,17 +17,12 @@ use Rattle.reading.specs.Text.{Name, read_name}
 use Rattle.reading.specs.Expr.{Expr, unary_ops, bin_ops, read_path, read_expr}
 use Rattle.reading.specs.Combine.{entries}
 use Rattle.reading.specs.Skip.{text_at}
-use Rattle.reading.specs.Link.{answer, tagged_of}
+use Rattle.reading.specs.Link.{answer}
 use Rattle.reading.specs.Views.{ExprAt, int_expr, bool_expr, path_expr, unary_expr, binary_expr}
 use Rattle.reading.specs.declared.cursor.Cursor.{Cursor}
-use Rattle.reading.specs.declared.fault.Fault.{Fault}
-use Rattle.reading.specs.declared.item.Answer.{Answer}
-use Rattle.reading.specs.declared.item.Answer.TheVariants.{Got, Refused}
 use Rattle.reading.specs.declared.item.Tag.{Tag}
-use Rattle.reading.specs.declared.item.Tagged.{Tagged}
-use Rattle.reading.specs.declared.item.Tagged.TheVariants as tagged
 use Rattle.reading.proofs.Rules.{by, no}
-use Rattle.reading.proofs.Answers.{num, out}
+use Rattle.reading.proofs.Answers.{got, out}
 use Rattle.reading.proofs.ExprLaws.{name_laws, path_laws}
 use Rattle.reading.proofs.CaseViews.{expr_at}
 use Rattle.reading.proofs.ListViews.{list_at}
@@ -42,8 +37,10 @@ use Rattle.typing.proofs.EnvLaws.{entry, after_is}
 use Rattle.typing.proofs.TypeLaws.{fields_are}
 use Rattle.findings.specs.Mentions.{sole_name, collect_names}
 use Rattle.findings.specs.Touch.{var_at, Touched, AllMarked, VarTouched, Touches, TouchesExpr, TouchesUnary, TouchesBinary}
-
 -- a name of one list or of the other
+use Rattle.std.specs.Prelude.{Result, Ok, Err}
+use Rattle.reading.specs.declared.fault.Refusal.{Refusal}
+
 member_append : (n : Name) (xs ys : List Name) → member n (xs ++ ys) ≡ pick (member n xs) true (member n ys)
 unfolding member pick
 member_append n [] ys = refl
@@ -104,9 +101,6 @@ module _ (names m : List ℕ) where
 
   pub all_marked : {i : ℕ} → ((k : ℕ) → k < i → get_or m k 0 ≡ 1) → length names / 2 ≤ i → AllMarked names m true
   all_marked f h = record { of = λ q k l. f k (omega arith) }
-
-pub free_past : (marks : List ℕ) (k : ℕ) → length marks ≤ k → true ≡ eqb (get_or marks k 0) 0
-free_past marks k h = sym (eq-eqb (get_or marks k 0) 0 (get_or-eq_default marks 0 h))
 
 -- one variable
 module _ (s : List ℕ) (key : ℕ) (w : Name) (k : ℕ) (m : List ℕ) where
@@ -210,20 +204,20 @@ module _ (s names : List ℕ) (n : Name) (m : List ℕ) where
       sole false = refl
 
 -- a path
-module _ (s : List ℕ) (at : ℕ) (names m : List ℕ) {a : Answer} (e : a ≡ answer (read_count max_path s at)) where
-  pub path_refused : (r : ℕ) {f : Fault} {p : ℕ} → a ≡ Refused f p → Touches read_path sole_name s at names m r m
+module _ (s : List ℕ) (at : ℕ) (names m : List ℕ) {a : Result (ℕ × Cursor) Refusal} (e : a ≡ answer (read_count max_path s at)) where
+  pub path_refused : (r : ℕ) {f : Refusal} → a ≡ Err f → Touches read_path sole_name s at names m r m
   unfolding read_path
-  path_refused r {f} {p} q = record { end = λ x n g. none x n g; of = λ x n g. none x n g }
+  path_refused r {f} q = record { end = λ x n g. none x n g; of = λ x n g. none x n g }
     where
       none : {P : Type 0} (x : List Name) (n : ℕ) → read_path s at ≡ ok x n → P
       none x n g = let l = list_at read_name s max_path at x n g in no (let u = out _ e q in let v = l.opens in cc)
 
-  module _ {c : ℕ} {first : Cursor} (q : a ≡ Got c first) where
+  module _ {c : ℕ} {first : Cursor} (q : a ≡ Ok (c, first)) where
     pub path_long : {r : ℕ} → (c ≡ 1 → ⊥) → Past s at r → Touches read_path sole_name s at names m r m
     unfolding read_path sole_name
     path_long h p = record {
       end = λ x n g. p.is ∙ after_is path_laws s p.each at x n g;
-      of = λ x n g. let l = list_at read_name s max_path at x n g in let u = num _ e q in let v = l.opens in go x (cc);
+      of = λ x n g. let l = list_at read_name s max_path at x n g in let u = got _ e q in let v = l.opens in go x (cc);
     }
       where
         go : (x : List Name) → length x ≡ c → Touched s names m (sole_name x) m
@@ -234,8 +228,8 @@ module _ (s : List ℕ) (at : ℕ) (names m : List ℕ) {a : Answer} (e : a ≡ 
     pub path_one : {text : Name} {r : ℕ} {m' : List ℕ} → c ≡ 1 → text ≡ text_at s first.at → Touched s names m (text ∷ []) m' → Past s first.at r → Touches read_path sole_name s at names m r m'
     unfolding read_path sole_name entries
     path_one {text} {r} {m'} z t g p = record {
-      end = λ x n k. let l = list_at read_name s max_path at x n k in let u = num _ e q in let v = l.opens in (go x n (cc) (ap (entries (length x) read_name s) (cc) ∙ l.entries_are)).0;
-      of = λ x n k. let l = list_at read_name s max_path at x n k in let u = num _ e q in let v = l.opens in (go x n (cc) (ap (entries (length x) read_name s) (cc) ∙ l.entries_are)).1;
+      end = λ x n k. let l = list_at read_name s max_path at x n k in let u = got _ e q in let v = l.opens in (go x n (cc) (ap (entries (length x) read_name s) (cc) ∙ l.entries_are)).0;
+      of = λ x n k. let l = list_at read_name s max_path at x n k in let u = got _ e q in let v = l.opens in (go x n (cc) (ap (entries (length x) read_name s) (cc) ∙ l.entries_are)).1;
     }
       where
         go : (x : List Name) (n : ℕ) → length x ≡ c → entries (length x) read_name s first.at ≡ ok x n → (r ≡ n) × Touched s names m (sole_name x) m'
@@ -258,8 +252,8 @@ module _ (d : ℕ) (s : List ℕ) (at : ℕ) (names m : List ℕ) (r : ℕ) (m' 
       none : {P : Type 0} (x : Expr) (n : ℕ) → read_expr d s at ≡ ok x n → P
       none x n q = let w = rw z at q in no (cc)
 
-  pub expr_no_tag : {a : Tagged} {f : Fault} {p : ℕ} → (d ≡ 0 → ⊥) → a ≡ tagged_of (read_tag s at) → a ≡ tagged.Refused f p → TouchesExpr s at names m r m' d
-  expr_no_tag {a} {f} {p} z e q = record { end = λ x n g. none x n g; of = λ x n g. none x n g }
+  pub expr_no_tag : {a : Result (Tag × Cursor) Refusal} {f : Refusal} → (d ≡ 0 → ⊥) → a ≡ answer (read_tag s at) → a ≡ Err f → TouchesExpr s at names m r m' d
+  expr_no_tag {a} {f} z e q = record { end = λ x n g. none x n g; of = λ x n g. none x n g }
     where
       none : {P : Type 0} (x : Expr) (n : ℕ) → read_expr d s at ≡ ok x n → P
       none x n g =
@@ -312,19 +306,13 @@ beyond_case (unary_expr q t) z = absurd (omega arith)
 beyond_case (binary_expr q t u) z = absurd (omega arith)
 
 -- the arms
-module _ (d : ℕ) (s : List ℕ) (at : ℕ) (names m : List ℕ) {a : Tagged} {t : Tag} {c : Cursor} (z : d ≡ 0 → ⊥) (e : a ≡ tagged_of (read_tag s at)) (q : a ≡ tagged.Case t c) where
+module _ (d : ℕ) (s : List ℕ) (at : ℕ) (names m : List ℕ) {a : Result (Tag × Cursor) Refusal} {t : Tag} {c : Cursor} (z : d ≡ 0 → ⊥) (e : a ≡ answer (read_tag s at)) (q : a ≡ Ok (t, c)) where
   fields : (x : Expr) (n : ℕ) → read_expr d s at ≡ ok x n → ExprAt (d - 1) s c.at t.case x n
   fields = fields_are d s at e z q
 
   module _ {r : ℕ} (h : Ends (read_expr d s at) r) where
-    literal : t.case ≤ 1 → TouchesExpr s at names m r m d
-    literal k = record { end = h.of; of = λ x n w. touched_as s names (collect_names x) (sym (literal_case (fields x n w) k)) (touched_none s names m) }
-
-    pub arm_int : t.case ≡ 0 → TouchesExpr s at names m r m d
-    arm_int k = literal (omega arith)
-
-    pub arm_bool : t.case ≡ 1 → TouchesExpr s at names m r m d
-    arm_bool k = literal (omega arith)
+    pub arm_literal : t.case ≤ 1 → TouchesExpr s at names m r m d
+    arm_literal k = record { end = h.of; of = λ x n w. touched_as s names (collect_names x) (sym (literal_case (fields x n w) k)) (touched_none s names m) }
 
   module _ (r : ℕ) (m' : List ℕ) where
     pub arm_path : t.case ≡ 2 → Touches read_path sole_name s c.at names m r m' → TouchesExpr s at names m r m' d
@@ -340,22 +328,22 @@ module _ (d : ℕ) (s : List ℕ) (at : ℕ) (names m : List ℕ) {a : Tagged} {
     arm_beyond k = record { end = λ x n w. beyond_case (fields x n w) k; of = λ x n w. beyond_case (fields x n w) k }
 
 -- the fields of a unary and of a binary expression
-module _ (d : ℕ) (s : List ℕ) (at : ℕ) (names m : List ℕ) {a : Answer} (e : a ≡ answer (read_case unary_ops s at)) where
-  pub unary_none : (r : ℕ) (m' : List ℕ) {f : Fault} {p : ℕ} → a ≡ Refused f p → TouchesUnary s at names m r m' d
+module _ (d : ℕ) (s : List ℕ) (at : ℕ) (names m : List ℕ) {a : Result (ℕ × Cursor) Refusal} (e : a ≡ answer (read_case unary_ops s at)) where
+  pub unary_none : (r : ℕ) (m' : List ℕ) {f : Refusal} → a ≡ Err f → TouchesUnary s at names m r m' d
   unary_none r m' q = record { end = λ op k x n u v. no (let w = out _ e q in cc); of = λ op k x n u v. no (let w = out _ e q in cc) }
 
-  pub unary_goes : {op : ℕ} {c : Cursor} (r : ℕ) (m' : List ℕ) → a ≡ Got op c → TouchesExpr s c.at names m r m' d → TouchesUnary s at names m r m' d
+  pub unary_goes : {op : ℕ} {c : Cursor} (r : ℕ) (m' : List ℕ) → a ≡ Ok (op, c) → TouchesExpr s c.at names m r m' d → TouchesUnary s at names m r m' d
   unfolding collect_names
   unary_goes {op} {c} r m' q h = record { end = λ o k x n u v. h.end x n (there o k x n u v); of = λ o k x n u v. h.of x n (there o k x n u v) }
     where
       there : (o k : ℕ) (x : Expr) (n : ℕ) → read_case unary_ops s at ≡ ok o k → read_expr d s k ≡ ok x n → read_expr d s c.at ≡ ok x n
-      there o k x n u v = let w = num _ e q in let y : c.at ≡ k = cc in ap (read_expr d s) y ∙ v
+      there o k x n u v = let w = got _ e q in let y : c.at ≡ k = cc in ap (read_expr d s) y ∙ v
 
-module _ (d : ℕ) (s : List ℕ) (at : ℕ) (names m : List ℕ) {a : Answer} (e : a ≡ answer (read_case bin_ops s at)) where
-  pub binary_none : (r : ℕ) (m' : List ℕ) {f : Fault} {p : ℕ} → a ≡ Refused f p → TouchesBinary s at names m r m' d
+module _ (d : ℕ) (s : List ℕ) (at : ℕ) (names m : List ℕ) {a : Result (ℕ × Cursor) Refusal} (e : a ≡ answer (read_case bin_ops s at)) where
+  pub binary_none : (r : ℕ) (m' : List ℕ) {f : Refusal} → a ≡ Err f → TouchesBinary s at names m r m' d
   binary_none r m' q = record { end = λ op k x j y n u v w. no (let z = out _ e q in cc); of = λ op k x j y n u v w. no (let z = out _ e q in cc) }
 
-  pub binary_goes : {op : ℕ} {c : Cursor} {right : ℕ} {m₁ : List ℕ} (r : ℕ) (m' : List ℕ) → a ≡ Got op c → TouchesExpr s c.at names m right m₁ d → TouchesExpr s right names m₁ r m' d → TouchesBinary s at names m r m' d
+  pub binary_goes : {op : ℕ} {c : Cursor} {right : ℕ} {m₁ : List ℕ} (r : ℕ) (m' : List ℕ) → a ≡ Ok (op, c) → TouchesExpr s c.at names m right m₁ d → TouchesExpr s right names m₁ r m' d → TouchesBinary s at names m r m' d
   unfolding collect_names
   binary_goes {op} {c} {right} r m' q g h = record {
     end = λ o k x j y n u v w. let i = there o k x j u v in h.end y n (ap (read_expr d s) (g.end x j i) ∙ w);
@@ -363,4 +351,4 @@ module _ (d : ℕ) (s : List ℕ) (at : ℕ) (names m : List ℕ) {a : Answer} (
   }
     where
       there : (o k : ℕ) (x : Expr) (j : ℕ) → read_case bin_ops s at ≡ ok o k → read_expr d s k ≡ ok x j → read_expr d s c.at ≡ ok x j
-      there o k x j u v = let w = num _ e q in let y : c.at ≡ k = cc in ap (read_expr d s) y ∙ v
+      there o k x j u v = let w = got _ e q in let y : c.at ≡ k = cc in ap (read_expr d s) y ∙ v

@@ -1,4 +1,5 @@
 -- What is noted of each transition by itself, for whatever reads there.
+use Rattle.std.specs.Prelude.{Option as Maybe}
 use Prim.Native.Nat.{ℕ, ◌+◌, ◌-◌, ◌/◌, ◌<◌, ◌≤◌}
 use mathlib.Core.Path.{◌≡◌, refl, sym, ap, subst, ◌∙◌}
 use mathlib.Core.List.{List, [], ◌∷◌}
@@ -19,7 +20,6 @@ use Rattle.typing.specs.Patterns.{validate_event_pattern}
 use Rattle.typing.specs.Means.{blame_of}
 use Rattle.typing.specs.Blames.{Bound, Binds, JudgesPattern}
 use Rattle.typing.specs.declared.cause.Bindings.{Bindings}
-use Rattle.typing.specs.declared.table.Found.{Found}
 use Rattle.typing.proofs.BlockLaws.{block_filled, keeps_taken}
 use Rattle.typing.proofs.EnvLaws.{bound_length, bindings_agree, unbound_agree}
 use Rattle.findings.specs.declared.transition.Judged.{Judged}
@@ -154,7 +154,7 @@ module _ (s places rows prints : List ℕ) (count : ℕ) (variants table enums :
     turns_done h = record { of = λ m c rs ps l v y. each_done (own m) i m.transitions (omega arith) (g.of m c rs ps l v y) }
 
 -- by the table of the State variants
-module _ (s places rows prints : List ℕ) (count : ℕ) (found : Found) (table : List ℕ) (k : ℕ) (enums : List ℕ) (owner : ℕ) (o : List ℕ) (skip n : ℕ) where
+module _ (s places rows prints : List ℕ) (count : ℕ) (found : Maybe ℕ) (table : List ℕ) (k : ℕ) (enums : List ℕ) (owner : ℕ) (o : List ℕ) (skip n : ℕ) where
   pub moves_noted : {words r : ℕ} {variants o' : List ℕ} → StatesFilled s found words variants → NotesTransitions s owner o skip n r o' places rows prints count (take (words - 0) variants) table k enums → NotesMoves s owner o skip n r o' places rows prints count found table k enums
   moves_noted {words} f p =
       let z : words - 0 ≡ words = omega arith in

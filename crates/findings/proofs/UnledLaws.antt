@@ -21,17 +21,12 @@ use Rattle.reading.specs.Transition.{Transition}
 use Rattle.reading.specs.Skip.{text_at}
 use Rattle.reading.specs.Link.{answer}
 use Rattle.reading.specs.declared.cursor.Cursor.{Cursor}
-use Rattle.reading.specs.declared.fault.Fault.{Fault}
-use Rattle.reading.specs.declared.item.Answer.{Answer}
-use Rattle.reading.specs.declared.item.Answer.TheVariants.{Got, Refused}
 use Rattle.reading.proofs.Rules.{no}
 use Rattle.reading.proofs.ExprLaws.{name_laws}
 use Rattle.reading.proofs.Walks.{name_text}
 use Rattle.typing.specs.Names.{eq_name, member}
 use Rattle.typing.specs.Table.{Past}
 use Rattle.typing.specs.Lanes.{print}
-use Rattle.typing.specs.declared.table.Found.{Found}
-use Rattle.typing.specs.declared.table.Found.TheVariants.{At, Nothing}
 use Rattle.typing.proofs.NameLaws.{eq_name_refl, eq_name_eq}
 use Rattle.typing.proofs.EnvLaws.{after_is}
 use Rattle.findings.specs.Lists.{placed, any, each}
@@ -54,8 +49,10 @@ use Rattle.findings.proofs.Orderless.{starts_meant}
 use Rattle.findings.proofs.EachLaws.{get_some, get_below, drop_get, Walking, walk_start, walk_refused, walk_more, walk_done}
 use Rattle.findings.proofs.OptionLaws.{not_given, is_given}
 use Rattle.findings.proofs.PairTests.{isn't}
-
 -- a transition by its place
+use Rattle.std.specs.Prelude.{Result, Option, Some, None, Ok, Err}
+use Rattle.reading.specs.declared.fault.Refusal.{Refusal}
+
 mem_get : {A : Type 0} (xs : List A) (x : A) → Memᴰ x xs → (i : ℕ) × (i < length xs) × (get_elem? xs i ≡ some x)
 mem_get [] x h = absurd (Memᴰ.not-nil h)
 mem_get {A} (y ∷ xs) x h = go (mem_get xs x) (Memᴰ.cases_cons h)
@@ -222,11 +219,11 @@ module _ (s : List ℕ) (owner : ℕ) (o : List ℕ) (skip n : ℕ) (rows prints
   abbrev pub UnledLeft : (many k j r : ℕ) → List ℕ → Type 0
   UnledLeft = Walking read_name (unled_note {s = s} {rows = rows} {prints = prints} {count = count} m (text_at s at)) s max_list list owner o skip n
 
-  module _ {a : Answer} (e : a ≡ answer (read_count max_list s list)) where
-    pub unled_refused : {t : Fault} {p : ℕ} → a ≡ Refused t p → NotesUnledAt s owner o skip n n o rows prints count m at list
+  module _ {a : Result (ℕ × Cursor) Refusal} (e : a ≡ answer (read_count max_list s list)) where
+    pub unled_refused : {t : Refusal} → a ≡ Err t → NotesUnledAt s owner o skip n n o rows prints count m at list
     unled_refused q = record { of = λ h ws g. walk_refused read_name (unled_note {s = s} {rows = rows} {prints = prints} {count = count} m (text_at s at)) s max_list list owner o skip n e q ws g }
 
-    pub unled_start : {many : ℕ} {c : Cursor} → a ≡ Got many c → UnledLeft many c.at 0 n o
+    pub unled_start : {many : ℕ} {c : Cursor} → a ≡ Ok (many, c) → UnledLeft many c.at 0 n o
     unled_start q = walk_start read_name (unled_note {s = s} {rows = rows} {prints = prints} {count = count} m (text_at s at)) s max_list list owner o skip n e q
 
   module _ {many k j r : ℕ} {o' : List ℕ} (w : UnledLeft many k j r o') where
@@ -237,24 +234,24 @@ module _ (s : List ℕ) (owner : ℕ) (o : List ℕ) (skip n : ℕ) (rows prints
     unled_done b = record { of = λ h ws g. walk_done read_name (unled_note {s = s} {rows = rows} {prints = prints} {count = count} m (text_at s at)) s max_list list owner o skip n w b h ws g }
 
 -- the State variants
-module _ (s : List ℕ) (owner : ℕ) (o : List ℕ) (skip n : ℕ) (rows prints : List ℕ) (count : ℕ) (m : List ℕ) (at : ℕ) {found : Found} where
-  pub states_missing : found ≡ Nothing → NotesUnledStates s owner o skip n n o rows prints count m at found
+module _ (s : List ℕ) (owner : ℕ) (o : List ℕ) (skip n : ℕ) (rows prints : List ℕ) (count : ℕ) (m : List ℕ) (at : ℕ) {found : Option ℕ} where
+  pub states_missing : found ≡ None → NotesUnledStates s owner o skip n n o rows prints count m at found
   states_missing q = record { of = λ h vs g. go h q g }
     where
-      go : (h : Moves s rows prints count) {f : Found} {vs : List Name} → f ≡ Nothing → StatesAt s f vs → Noted owner o skip n (each (unled_note m (text_at s at) h) (placed 0 vs)) n o
+      go : (h : Moves s rows prints count) {f : Option ℕ} {vs : List Name} → f ≡ None → StatesAt s f vs → Noted owner o skip n (each (unled_note m (text_at s at) h) (placed 0 vs)) n o
       go h q (states_here g) = no (cc)
       go h q states_none = note_nothing owner o skip n
 
-  pub states_found : {list r : ℕ} {o' : List ℕ} → found ≡ At list → NotesUnledAt s owner o skip n r o' rows prints count m at list → NotesUnledStates s owner o skip n r o' rows prints count m at found
+  pub states_found : {list r : ℕ} {o' : List ℕ} → found ≡ Some list → NotesUnledAt s owner o skip n r o' rows prints count m at list → NotesUnledStates s owner o skip n r o' rows prints count m at found
   unfolding read_names
   states_found {list} {r} {o'} q p = record { of = λ h vs g. go h q g }
     where
-      go : (h : Moves s rows prints count) {f : Found} {vs : List Name} → f ≡ At list → StatesAt s f vs → Noted owner o skip n (each (unled_note m (text_at s at) h) (placed 0 vs)) r o'
+      go : (h : Moves s rows prints count) {f : Option ℕ} {vs : List Name} → f ≡ Some list → StatesAt s f vs → Noted owner o skip n (each (unled_note m (text_at s at) h) (placed 0 vs)) r o'
       go h q (states_here {k = k} {vs = vs} g) = let i : k ≡ list = cc in p.of h vs (subst (λ (y : ℕ). Reads (list_of max_list read_name) s y vs) i g)
       go h q states_none = no (cc)
 
 -- the whole
-module _ (s : List ℕ) (owner : ℕ) (o : List ℕ) (skip n : ℕ) (rows : List ℕ) (count : ℕ) (prints : List ℕ) (found : Found) (at : ℕ) {b : Bool} (e : b ≡ eqb (get_or s at 0) 246) where
+module _ (s : List ℕ) (owner : ℕ) (o : List ℕ) (skip n : ℕ) (rows : List ℕ) (count : ℕ) (prints : List ℕ) (found : Option ℕ) (at : ℕ) {b : Bool} (e : b ≡ eqb (get_or s at 0) 246) where
   pub no_initial : b ≡ true → NotesUnreachable s owner o skip n n o rows count prints found at
   unfolding unreachable
   no_initial q = record { of = λ vs w ts g i r p c. rw (not_given read_name s at i e q) (note_nothing owner o skip n) }

@@ -1,15 +1,15 @@
 -- The variants that patterns of a group use: what each pattern adds, and what the answers say.
-use Prim.Native.Nat.{ℕ, zero, suc, ◌+◌, ◌-◌, ◌*◌, ◌<◌, ◌≤◌}
+use Rattle.std.specs.Prelude.{Option, Some, None, is_some}
+use Prim.Native.Nat.{ℕ, zero, suc, ◌+◌, ◌*◌, ◌<◌, ◌≤◌}
 use mathlib.Core.Path.{◌≡◌, refl, sym, ap, subst, ◌∙◌}
 use mathlib.Core.Logic.{◌⊎◌, inl, inr}
 use mathlib.Core.Bool.{Bool, true, false, ◌&&◌, ◌||◌}
 use mathlib.Core.List.{List, [], ◌∷◌, ◌++◌, map, append_assoc, append-nil}
 use mathlib.Core.Option.{none, some}
 use native.Mathlib.Omega.{arith}
-use borrow.Author.Tests.{ltb-true, ltb-false}
 use lib.ListN.{length, get_or, get_elem?, drop, length-append, drop_of_length-le}
 use lib.Seq.{length-sets}
-use lib.Dec.{eqb, ltb}
+use lib.Dec.{eqb}
 use Rattle.reading.specs.Read.{pick, Read}
 use Rattle.reading.specs.Limits.{max_list}
 use Rattle.reading.specs.Text.{Name}
@@ -20,7 +20,7 @@ use Rattle.reading.specs.Transition.{Transition}
 use Rattle.reading.specs.Skip.{text_at}
 use Rattle.reading.specs.Views.{PatternVariantAt, unit_pattern, struct_pattern}
 use Rattle.reading.specs.declared.item.Tag.{Tag}
-use Rattle.reading.proofs.Rules.{no, by}
+use Rattle.reading.proofs.Rules.{no}
 use Rattle.reading.proofs.ExprLaws.{name_laws}
 use Rattle.reading.proofs.Views.{pattern_at}
 use Rattle.reading.proofs.CaseViews.{pattern_variant_at}
@@ -31,14 +31,12 @@ use Rattle.typing.specs.Patterns.{declared_name, pattern_variant_name}
 use Rattle.typing.specs.Table.{place_after, after_item, after_head, after_tag, Past}
 use Rattle.typing.specs.First.{FirstVariant}
 use Rattle.typing.specs.Lanes.{print}
-use Rattle.typing.specs.declared.table.Found.{Found}
-use Rattle.typing.specs.declared.table.Found.TheVariants.{At, Nothing}
 use Rattle.typing.proofs.EnvLaws.{after_is, fields_head}
 use Rattle.typing.proofs.FirstLaws.{found_no, found_yes}
 use Rattle.typing.proofs.NameLaws.{eq_name_eq}
 use Rattle.findings.specs.Scene.{Reads, field, Rows}
 use Rattle.findings.specs.Classes.{Tabled}
-use Rattle.findings.specs.Uses.{variant_names, is_bare, pattern_names, pattern_bare, named_by, bare_by, used_by, NamesAt, VariantsAt, variants_here, variants_none, AddsVariant, AddsUse, GroupPrint, NextMarked, UsesOf, HasVariant, IsUsed}
+use Rattle.findings.specs.Uses.{variant_names, is_bare, pattern_names, pattern_bare, named_by, bare_by, used_by, NamesAt, VariantsAt, variants_here, variants_none, AddsVariant, AddsUse, GroupPrint, UsesOf, HasVariant, IsUsed}
 use Rattle.findings.specs.Variants.{VariantAt, Variants, put_variant, IsVariant}
 use Rattle.findings.specs.declared.uses.Uses.{Uses}
 use Rattle.findings.proofs.EachLaws.{get_some, drop_get}
@@ -140,20 +138,6 @@ module _ (s : List ℕ) (at : ℕ) (g : Name) (table : List ℕ) (u : Uses) {nam
 pub group_print : (s rows : List ℕ) (i : ℕ) {at name : ℕ} {text : Name} {r : ℕ} → at ≡ field rows i 2 → name ≡ after_head s at → text ≡ text_at s name → r ≡ print 0 text → GroupPrint s rows i r
 group_print s rows i e h t q = q ∙ ap (print 0) (t ∙ ap (text_at s) (h ∙ ap (after_head s) e))
 
--- the places passed while a mark is looked for
-pub marked_start : (marks : List ℕ) (mark from : ℕ) → NextMarked marks mark from from
-marked_start marks mark from = record { low = omega arith; passed = λ j a b. absurd (omega arith) }
-
-pub marked_more : {marks : List ℕ} {mark from i : ℕ} → NextMarked marks mark from i → (get_or marks i 0 ≡ mark → ⊥) → NextMarked marks mark from (i + 1)
-marked_more {marks} {mark} {i = i} w d = record {
-  low = let z = w.low in omega arith;
-  passed = λ j a b q.
-      by (ltb j i) (λ z. w.passed j a (ltb-true j i z) q) (λ z.
-      let y = ltb-false j i z in
-      let e : j ≡ i = omega arith in
-      d (ap (λ (k : ℕ). get_or marks k 0) (sym e) ∙ q));
-}
-
 -- another print tells another group
 use_apart : (s rows : List ℕ) (i : ℕ) (g : Name) (table : List ℕ) (u : Uses) {x mark : ℕ} → GroupPrint s rows i x → mark ≡ print 0 g → (x ≡ mark → ⊥) → AddsUse s (field rows i 2) g table u table u
 use_apart s rows i g table u p e d = use_other s (field rows i 2) g table u refl refl refl (sym (isn't _ (λ y. d (p ∙ ap (print 0) (eq_name_eq _ g y) ∙ sym e))))
@@ -165,7 +149,7 @@ module _ (s rows : List ℕ) (count : ℕ) (g : Name) where
     pub names : (ts : List Transition) → Rows s rows ts → count ≡ length ts → (ns : List Name) × NamesAt s table u.named ns × (ns ++ named_by g (drop i ts) ≡ named_by g ts)
     pub bare : (ts : List Transition) → Rows s rows ts → count ≡ length ts → (u.bare || bare_by g (drop i ts)) ≡ bare_by g ts
 
-  uses_start : (table : List ℕ) → UsesLeft table 0 (record { named = 0; bare = false })
+  pub uses_start : (table : List ℕ) → UsesLeft table 0 (record { named = 0; bare = false })
   uses_start table = record {
     few = omega arith;
     names = λ ts w q. ([], record { many = refl; room = omega arith; at = λ k x e. no (cc) }, refl);
@@ -202,26 +186,12 @@ module _ (s rows : List ℕ) (count : ℕ) (g : Name) where
       bare = λ ts w q. or_false_lem u.bare ∙ ap (λ (x : List Transition). u.bare || bare_by g x) (sym (drop_of_length-le ts {i = i} (omega arith))) ∙ l.bare ts w q;
     }
 
-  -- and on to the next mark
-  module _ (marks : List ℕ) {mark : ℕ} (m : Tabled (GroupPrint s rows) count marks) (e : mark ≡ print 0 g) where
-    uses_skip : {table : List ℕ} {i r : ℕ} {u : Uses} → UsesLeft table i u → NextMarked marks mark i r → r ≤ count → UsesLeft table r u
-    uses_skip {table} {i} {r} {u} l w h =
-        let z = w.low in
-        let q : i + (r - i) ≡ r = omega arith in
-        subst (λ (k : ℕ). UsesLeft table k u) q (go (r - i) i l (λ j a b. w.passed j a (omega arith)) (omega arith))
-      where
-        go : (d k : ℕ) → UsesLeft table k u → ((j : ℕ) → k ≤ j → j < k + d → get_or marks j 0 ≡ mark → ⊥) → k + d ≤ count → UsesLeft table (k + d) u
-        go zero k x p b = let q : k ≡ k + 0 = omega arith in subst (λ (n : ℕ). UsesLeft table n u) q x
-        go (suc d) k x p b =
-            let q : k + 1 + d ≡ k + suc d = omega arith in
-            let y = uses_more table k u x (omega arith) (use_apart s rows k g table u (m.each k (omega arith)) e (p k (omega arith) (omega arith))) in
-            subst (λ (n : ℕ). UsesLeft table n u) q (go d (k + 1) y (λ j a c. p j (omega arith) (omega arith)) (omega arith))
+  -- one whose mark is another adds none
+  pub uses_pass : (marks : List ℕ) {table : List ℕ} {i mark : ℕ} {u : Uses} → Tabled (GroupPrint s rows) count marks → mark ≡ print 0 g → UsesLeft table i u → i < count → (get_or marks i 0 ≡ mark → ⊥) → UsesLeft table (i + 1) u
+  uses_pass marks {table} {i} {mark} {u} m e l h d = uses_more table i u l h (use_apart s rows i g table u (m.each i h) e d)
 
-    pub uses_first : (table : List ℕ) {r : ℕ} → NextMarked marks mark 0 r → r ≤ count → UsesLeft table r (record { named = 0; bare = false })
-    uses_first table w b = uses_skip (uses_start table) w b
-
-    pub uses_turn : {table : List ℕ} {i : ℕ} {u : Uses} {at : ℕ} {table' : List ℕ} {u' : Uses} {r : ℕ} → UsesLeft table i u → i < count → at ≡ field rows i 2 → AddsUse s at g table u table' u' → NextMarked marks mark (i + 1) r → r ≤ count → UsesLeft table' r u'
-    uses_turn {table} {i} {u} l h q a w b = uses_skip (uses_more table i u l h (rw q at a)) w b
+  pub uses_turn : {table : List ℕ} {i : ℕ} {u : Uses} {at : ℕ} {table' : List ℕ} {u' : Uses} → UsesLeft table i u → i < count → at ≡ field rows i 2 → AddsUse s at g table u table' u' → UsesLeft table' (i + 1) u'
+  uses_turn {table} {i} {u} l h q a = uses_more table i u l h (rw q at a)
 
 -- a variant among those of a list that was found
 called_member : (w : Name) (xs : List ConstructorVariant) → first_called declared_name w xs ≡ none → member w (map declared_name xs) ≡ false
@@ -242,21 +212,21 @@ called_some w (x ∷ xs) v e = go (eq_name (declared_name x) w) refl (called_som
     go true q r = refl
     go false q r = r (rw q at e)
 
-at_of : (s : List ℕ) {k : ℕ} {f : Found} {vs : List Name} → f ≡ At k → VariantsAt s f vs → (xs : List ConstructorVariant) × (vs ≡ map declared_name xs) × Reads (list_of max_list read_constructor_variant) s k xs
+at_of : (s : List ℕ) {k : ℕ} {f : Option ℕ} {vs : List Name} → f ≡ Some k → VariantsAt s f vs → (xs : List ConstructorVariant) × (vs ≡ map declared_name xs) × Reads (list_of max_list read_constructor_variant) s k xs
 at_of s {k} q (variants_here {k = j} {xs = xs} g) = let i : j ≡ k = cc in (xs, refl, subst (λ (y : ℕ). Reads (list_of max_list read_constructor_variant) s y xs) i g)
 at_of s q variants_none = no (cc)
 
-module _ (s : List ℕ) {f : Found} (w : Name) where
-  pub variant_nowhere : f ≡ Nothing → HasVariant s f w false
+module _ (s : List ℕ) {f : Option ℕ} (w : Name) where
+  pub variant_nowhere : f ≡ None → HasVariant s f w false
   unfolding member
   variant_nowhere q = record { of = λ vs g. go q g }
     where
-      go : {vs : List Name} {f : Found} → f ≡ Nothing → VariantsAt s f vs → false ≡ member w vs
+      go : {vs : List Name} {f : Option ℕ} → f ≡ None → VariantsAt s f vs → false ≡ member w vs
       go q (variants_here g) = no (cc)
       go q variants_none = refl
 
-  module _ {at : ℕ} {v : Found} (q : f ≡ At at) (h : FirstVariant s at w v) where
-    pub variant_found_lem : {k : ℕ} → v ≡ At k → HasVariant s f w true
+  module _ {at : ℕ} {v : Option ℕ} (q : f ≡ Some at) (h : FirstVariant s at w v) where
+    variant_found_lem : {k : ℕ} → v ≡ Some k → HasVariant s f w true
     variant_found_lem z = record {
       of = λ vs g.
           let x = at_of s q g in
@@ -264,14 +234,21 @@ module _ (s : List ℕ) {f : Found} (w : Name) where
           sym (ap (member w) x.1 ∙ called_some w x.0 y.0 y.3);
     }
 
-    pub variant_missing : v ≡ Nothing → HasVariant s f w false
+    variant_missing : v ≡ None → HasVariant s f w false
     variant_missing z = record {
       of = λ vs g.
           let x = at_of s q g in
           sym (ap (member w) x.1 ∙ called_member w x.0 (found_no (h.of x.0 x.2.end x.2.is) z));
     }
 
-module _ (s : List ℕ) (f : Found) (table : List ℕ) (bare : Bool) (at : ℕ) {w : Name} {p : ℕ} {b : Bool} (t : w ≡ text_at s at) (e : p ≡ print 0 w) (n : IsVariant s table at p b) where
+    pub variant_some : {b : Bool} → b ≡ is_some v → HasVariant s f w b
+    variant_some z = rw z (go v refl)
+      where
+        go : (x : Option ℕ) → v ≡ x → HasVariant s f w (is_some x)
+        go None y = variant_missing y
+        go (Some k) y = variant_found_lem y
+
+module _ (s : List ℕ) (f : Option ℕ) (table : List ℕ) (bare : Bool) (at : ℕ) {w : Name} {p : ℕ} {b : Bool} (t : w ≡ text_at s at) (e : p ≡ print 0 w) (n : IsVariant s table at p b) where
   by_name : (x : Bool) → b ≡ x → (vs ns : List Name) → Variants s table ns → (x || (bare && member w vs)) ≡ used_by bare vs ns (text_at s at)
   by_name x q vs ns k = rw (sym t) (ap (λ (y : Bool). y || (bare && member w vs)) (sym q ∙ n.of ns w k (sym t) e))
 

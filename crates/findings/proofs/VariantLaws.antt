@@ -21,19 +21,14 @@ use Rattle.reading.specs.Skip.{text_at}
 use Rattle.reading.specs.Views.{Rest}
 use Rattle.reading.specs.Link.{answer}
 use Rattle.reading.specs.declared.cursor.Cursor.{Cursor}
-use Rattle.reading.specs.declared.fault.Fault.{Fault}
-use Rattle.reading.specs.declared.item.Answer.{Answer}
-use Rattle.reading.specs.declared.item.Answer.TheVariants.{Got, Refused}
 use Rattle.reading.proofs.Rules.{no, by}
-use Rattle.reading.proofs.Answers.{num, out}
+use Rattle.reading.proofs.Answers.{got, out}
 use Rattle.reading.proofs.ExprLaws.{name_laws}
 use Rattle.reading.proofs.ListViews.{list_at, rest_all, turn}
 use Rattle.reading.proofs.Walks.{name_text}
 use Rattle.typing.specs.Names.{eq_name, member}
 use Rattle.typing.specs.Table.{Past}
 use Rattle.typing.specs.Lanes.{print}
-use Rattle.typing.specs.declared.table.Found.{Found}
-use Rattle.typing.specs.declared.table.Found.TheVariants.{At, Nothing}
 use Rattle.typing.proofs.EnvLaws.{after_is}
 use Rattle.typing.proofs.NameLaws.{eq_name_eq}
 use Rattle.findings.specs.Finding.{note, noted}
@@ -45,8 +40,10 @@ use Rattle.findings.specs.Promises.{NotesVariant}
 use Rattle.findings.proofs.PlaceLaws.{entry_at, entry_below, drop_entry}
 use Rattle.findings.proofs.NoteLaws.{note_as}
 use Rattle.findings.proofs.PairTests.{isn't}
-
 -- the words of number j, and those before them
+use Rattle.std.specs.Prelude.{Result, Option, Some, None, Ok, Err}
+use Rattle.reading.specs.declared.fault.Refusal.{Refusal}
+
 module _ (p : List ℕ) (j : ℕ) (h : 2 * j + 1 < length p) (a b : ℕ) where
   put_print : get_or (sets p (2 * j) (a ∷ b ∷ [])) (2 * j) 0 ≡ a
   put_print =
@@ -105,15 +102,15 @@ module _ (s : List ℕ) (at : ℕ) where
   pub record VariantsSoFar (many k j : ℕ) (table : List ℕ) : Type 0 where
     pub of : (vs : List Name) → Reads (list_of max_list read_name) s at vs → Listing vs many k j table
 
-  module _ {a : Answer} (e : a ≡ answer (read_count max_list s at)) (table : List ℕ) where
-    pub names_refused : {t : Fault} {p : ℕ} → a ≡ Refused t p → NamesFilled s at 0 table
+  module _ {a : Result (ℕ × Cursor) Refusal} (e : a ≡ answer (read_count max_list s at)) (table : List ℕ) where
+    pub names_refused : {t : Refusal} → a ≡ Err t → NamesFilled s at 0 table
     names_refused q = record { of = λ vs g. let l = list_at read_name s max_list at vs g.end g.is in no (let x = out _ e q in let y = l.opens in cc) }
 
-    pub names_start : {many : ℕ} {c : Cursor} → a ≡ Got many c → VariantsSoFar many c.at 0 table
+    pub names_start : {many : ℕ} {c : Cursor} → a ≡ Ok (many, c) → VariantsSoFar many c.at 0 table
     names_start {many} {c} q = record {
       of = λ vs g.
           let l = list_at read_name s max_list at vs g.end g.is in
-          let x = num _ e q in
+          let x = got _ e q in
           let y = l.opens in
           let u : many ≡ length vs = cc in
           let v : l.first ≡ c.at = cc in
@@ -164,19 +161,19 @@ module _ (s : List ℕ) (at : ℕ) where
     }
 
 -- the State variants
-module _ (s : List ℕ) {found : Found} (table : List ℕ) where
-  pub states_unfilled : found ≡ Nothing → StatesFilled s found 0 table
+module _ (s : List ℕ) {found : Option ℕ} (table : List ℕ) where
+  pub states_unfilled : found ≡ None → StatesFilled s found 0 table
   states_unfilled q = record { of = λ vs g. go q g }
     where
-      go : {f : Found} {vs : List Name} → f ≡ Nothing → StatesAt s f vs → Variants s (take 0 table) vs
+      go : {f : Option ℕ} {vs : List Name} → f ≡ None → StatesAt s f vs → Variants s (take 0 table) vs
       go q (states_here g) = no (cc)
       go q states_none = record { room = refl; at = λ j v e. no (cc) }
 
-  pub states_filled : {at words : ℕ} → found ≡ At at → NamesFilled s at words table → StatesFilled s found words table
+  pub states_filled : {at words : ℕ} → found ≡ Some at → NamesFilled s at words table → StatesFilled s found words table
   unfolding read_names
   states_filled {at} {words} q p = record { of = λ vs g. go q g }
     where
-      go : {f : Found} {vs : List Name} → f ≡ At at → StatesAt s f vs → Variants s (take words table) vs
+      go : {f : Option ℕ} {vs : List Name} → f ≡ Some at → StatesAt s f vs → Variants s (take words table) vs
       go q (states_here {k = k} {vs = vs} g) = let i : k ≡ at = cc in p.of vs (subst (λ (y : ℕ). Reads (list_of max_list read_name) s y vs) i g)
       go q states_none = no (cc)
 

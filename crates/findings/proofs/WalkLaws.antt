@@ -11,11 +11,8 @@ use Rattle.reading.specs.Module.{Module, read_module}
 use Rattle.reading.specs.Views.{Rest}
 use Rattle.reading.specs.Link.{answer}
 use Rattle.reading.specs.declared.cursor.Cursor.{Cursor}
-use Rattle.reading.specs.declared.fault.Fault.{Fault}
-use Rattle.reading.specs.declared.item.Answer.{Answer}
-use Rattle.reading.specs.declared.item.Answer.TheVariants.{Got, Refused}
 use Rattle.reading.proofs.Rules.{no}
-use Rattle.reading.proofs.Answers.{num, out}
+use Rattle.reading.proofs.Answers.{got, out}
 use Rattle.reading.proofs.ItemLaws.{number_laws}
 use Rattle.reading.proofs.ModuleLaws.{version_agrees}
 use Rattle.reading.proofs.Views.{ir_at}
@@ -33,8 +30,10 @@ use Rattle.findings.specs.Scene.{Reads}
 use Rattle.findings.specs.Walks.{WalksModule, WalksModules, WalksAll}
 use Rattle.findings.proofs.SheetLaws.{Left, left_all, left_more, left_none}
 use Rattle.findings.proofs.EachLaws.{each_from, each_here}
-
 -- the findings of one module
+use Rattle.std.specs.Prelude.{Result, Ok, Err}
+use Rattle.reading.specs.declared.fault.Refusal.{Refusal}
+
 abbrev pub of_one : (Module → List Note) → Placed Module → List Finding
 of_one f x = map (in_module x.place) (f x.item)
 
@@ -65,15 +64,15 @@ module _ (s : List ℕ) (at : ℕ) (o : List ℕ) (skip n : ℕ) (p : List ℕ) 
   pub record Going (count k i r : ℕ) (o' : List ℕ) (q : ℕ) (p' : List ℕ) : Type 0 where
     pub of : (ms : List Module) → Reads (list_of max_modules read_module) s at ms → Gone ms count k i r o' q p'
 
-  module _ {a : Answer} (e : a ≡ answer (read_count max_modules s at)) where
-    pub go_refused : {t : Fault} {x : ℕ} → a ≡ Refused t x → WalksModules s o skip n n o p leave b b p at
+  module _ {a : Result (ℕ × Cursor) Refusal} (e : a ≡ answer (read_count max_modules s at)) where
+    pub go_refused : {t : Refusal} → a ≡ Err t → WalksModules s o skip n n o p leave b b p at
     go_refused q = record { of = λ ms g. let l = list_at read_module s max_modules at ms g.end g.is in no (let x = out _ e q in let y = l.opens in cc) }
 
-    pub go_start : {count : ℕ} {c : Cursor} → a ≡ Got count c → Going count c.at 0 n o b p
+    pub go_start : {count : ℕ} {c : Cursor} → a ≡ Ok (count, c) → Going count c.at 0 n o b p
     go_start {count} {c} q = record {
       of = λ ms g.
           let l = list_at read_module s max_modules at ms g.end g.is in
-          let x = num _ e q in
+          let x = got _ e q in
           let y = l.opens in
           let u : count ≡ length ms = cc in
           let v : l.first ≡ c.at = cc in

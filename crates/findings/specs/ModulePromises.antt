@@ -1,9 +1,8 @@
 -- What the code of a whole module promises: the tables that it works on, and its errors and warnings.
-use Rattle.std.specs.Prelude.{ℕ, ◌≤◌, ◌≡◌, List, ◌++◌, not, length, take}
+use Rattle.std.specs.Prelude.{ℕ, ◌≤◌, ◌≡◌, List, ◌++◌, not, length, take, Option}
 use Rattle.reading.specs.Module.{Module}
 use Rattle.typing.specs.Env.{for_module, Agree}
 use Rattle.typing.specs.Blocks.{env_at}
-use Rattle.typing.specs.declared.table.Found.{Found}
 use Rattle.findings.specs.Lists.{placed, each}
 use Rattle.findings.specs.Mentions.{states, all_touched}
 use Rattle.findings.specs.Pairs.{clash, by_state}
@@ -23,7 +22,7 @@ pub record Names (s places : List ℕ) (r : ℕ) (table enums properties : List 
   pub few_claims : r ≤ 1020
   pub of : (m : Module) → Bytes s → Scene s places m → NamedAs s r table enums properties m
 
-module _ (s : List ℕ) (owner : ℕ) (o : List ℕ) (skip n r : ℕ) (o' : List ℕ) (places : List ℕ) (found : Found) where
+module _ (s : List ℕ) (owner : ℕ) (o : List ℕ) (skip n r : ℕ) (o' : List ℕ) (places : List ℕ) (found : Option ℕ) where
   -- sites 16 to 20
   pub record NotesClosing (names enums properties : List ℕ) : Type 0 where
     pub of : (m : Module) → Scene s places m → StatesAt s found (states m) → Agree (env_at s names enums) (for_module m) → Claims s properties (claims m) → Noted owner o skip n (closing m) r o'

@@ -1,5 +1,5 @@
 -- What the code of each part of a module's errors promises: for whatever reads there, it notes what the definition says.
-use Rattle.std.specs.Prelude.{ℕ, ◌+◌, ◌*◌, ◌≤◌, ◌≡◌, List, ◌++◌, map, Bool, length, get_or, take}
+use Rattle.std.specs.Prelude.{ℕ, ◌+◌, ◌*◌, ◌≤◌, ◌≡◌, List, ◌++◌, map, Bool, length, get_or, take, Option as Maybe}
 use Rattle.std.proofs.Math.Option.{Option, some}
 use Rattle.std.proofs.Math.ListN.{get_elem?}
 use Rattle.reading.specs.Read.{ok}
@@ -21,9 +21,7 @@ use Rattle.typing.specs.Outputs.{validate_output_expr}
 use Rattle.typing.specs.Formulas.{type_formula, bounded_always_error}
 use Rattle.typing.specs.Table.{find_first}
 use Rattle.typing.specs.Blocks.{find_in, env_at}
-use Rattle.typing.specs.Means.{typed_of, outcome, blame_of}
-use Rattle.typing.specs.declared.cause.Typed.{Typed}
-use Rattle.typing.specs.declared.table.Found.{Found}
+use Rattle.typing.specs.Means.{typed_of, outcome, blame_of, Typed}
 use Rattle.findings.specs.declared.transition.Judged.{Judged}
 use Rattle.findings.specs.Lists.{Placed, placed, each}
 use Rattle.findings.specs.Finding.{Note, note, noted, caused, blamed, type_cause}
@@ -52,14 +50,14 @@ pub record JudgesOwn (s places rows : List ℕ) (i : ℕ) (table : List ℕ) (r 
   pub bound : (m : Module) (t : Transition) (enums : List ℕ) → Scene s places m → RowAt s rows i t → Agree (env_at s (take 829 table) enums) (for_module m) → Agree (env_at s (take r.names table') enums) (with_bindings (validate_event_pattern m.events t.pattern).bound (for_module m))
 
 -- the first enum called State, in the list of enums at a place
-pub record FirstStates (s : List ℕ) (at : ℕ) (r : Found) : Type 0 where
+pub record FirstStates (s : List ℕ) (at : ℕ) (r : Maybe ℕ) : Type 0 where
   pub of : (es : List EnumDecl) → Reads (list_of max_list read_enum_decl) s at es → StatesAt s r (enum_variants (first_called enum_name state_enum es))
 
 -- whether the name at a place is a State variant, and whether there are none
-pub record IsState (s : List ℕ) (found : Found) (at : ℕ) (r : Bool) : Type 0 where
+pub record IsState (s : List ℕ) (found : Maybe ℕ) (at : ℕ) (r : Bool) : Type 0 where
   pub of : (vs : List Name) → StatesAt s found vs → r ≡ member (text_at s at) vs
 
-pub record NoStates (s : List ℕ) (found : Found) (r : Bool) : Type 0 where
+pub record NoStates (s : List ℕ) (found : Maybe ℕ) (r : Bool) : Type 0 where
   pub of : (vs : List Name) → StatesAt s found vs → r ≡ is_empty vs
 
 -- the number of why an expression has no type: 0 where it has one
@@ -80,14 +78,14 @@ module _ (s : List ℕ) (owner : ℕ) (o : List ℕ) (skip n r : ℕ) (o' : List
     pub of : (e : Expr) (env : Env) → Reads read_top_expr s at e → Agree (env_at s names enums) env → Notes (caused (λ c. note site first second c) (type_cause (type_expr env e)))
 
   -- the name at a place, where it is no State variant
-  pub record NotesState (found : Found) (at site first : ℕ) : Type 0 where
+  pub record NotesState (found : Maybe ℕ) (at site first : ℕ) : Type 0 where
     pub of : (vs : List Name) (w : Name) → StatesAt s found vs → text_at s at ≡ w → Notes (unknown_state vs w (note site first 0 0))
 
   -- the same by the table of the State variants, of a name that has the print p
   pub record NotesVariant (variants : List ℕ) (at p site first : ℕ) : Type 0 where
     pub of : (vs : List Name) (w : Name) → Variants s variants vs → text_at s at ≡ w → p ≡ print 0 w → Notes (unknown_state vs w (note site first 0 0))
 
-  pub record NotesInitial (found : Found) (at : ℕ) (moves : Bool) : Type 0 where
+  pub record NotesInitial (found : Maybe ℕ) (at : ℕ) (moves : Bool) : Type 0 where
     pub of : (vs : List Name) (w : Option Name) → StatesAt s found vs → Reads (optional read_name) s at w → Notes (initial_notes vs w moves)
 
   pub record NotesVersion (at : ℕ) : Type 0 where
@@ -97,7 +95,7 @@ module _ (s : List ℕ) (owner : ℕ) (o : List ℕ) (skip n r : ℕ) (o' : List
     pub of : (vs : List VarDecl) (env : Env) → Reads (list_of max_list read_var_decl) s at vs → Agree (env_at s names enums) env → Notes (each (init_notes env) (placed 0 vs))
 
   -- sites 1 to 5
-  pub record NotesOpening (places : List ℕ) (found : Found) (moves : Bool) (names enums : List ℕ) : Type 0 where
+  pub record NotesOpening (places : List ℕ) (found : Maybe ℕ) (moves : Bool) (names enums : List ℕ) : Type 0 where
     pub of : (m : Module) → Scene s places m → StatesAt s found (states m) → Agree (env_at s names enums) (for_module m) → Notes (opening m moves)
 
   -- of transition i: its guard; a set and the sets; an emit and the emits; sites 9 to 13; sites 6 to 13
@@ -136,14 +134,14 @@ module _ (s : List ℕ) (owner : ℕ) (o : List ℕ) (skip n r : ℕ) (o' : List
     pub of : (m : Module) → Scene s places m → Rows s rows m.transitions → Prints prints m.transitions → count ≡ length m.transitions → Variants s variants (states m) → Agree (env_at s (take k table) enums) (for_module m) → Notes (each (own m) (placed 0 m.transitions))
 
   -- the same where the State variants stand at a place
-  pub record NotesMoves (places rows prints : List ℕ) (count : ℕ) (found : Found) (table : List ℕ) (k : ℕ) (enums : List ℕ) : Type 0 where
+  pub record NotesMoves (places rows prints : List ℕ) (count : ℕ) (found : Maybe ℕ) (table : List ℕ) (k : ℕ) (enums : List ℕ) : Type 0 where
     pub of : (m : Module) → Scene s places m → Rows s rows m.transitions → Prints prints m.transitions → count ≡ length m.transitions → StatesAt s found (states m) → Agree (env_at s (take k table) enums) (for_module m) → Notes (each (own m) (placed 0 m.transitions))
 
   -- sites 16 and 17
   pub record NotesErrorEmits (at : ℕ) (outputs names enums : List ℕ) : Type 0 where
     pub of : (xs : List OutputExpr) (m : Module) → Reads (list_of max_list read_output_expr) s at xs → OutputsAt s outputs m.outputs → Agree (env_at s names enums) (for_module m) → Notes (each (error_emit_notes m) (placed 0 xs))
 
-  pub record NotesOnError (at : ℕ) (found : Found) (outputs names enums : List ℕ) : Type 0 where
+  pub record NotesOnError (at : ℕ) (found : Maybe ℕ) (outputs names enums : List ℕ) : Type 0 where
     pub of : (e : Option OnError) (m : Module) → Reads (optional read_on_error) s at e → StatesAt s found (states m) → OutputsAt s outputs m.outputs → Agree (env_at s names enums) (for_module m) → Notes (on_error_notes m e)
 
 -- a table of properties: pairs of the places of a name and of its formula

@@ -1,6 +1,6 @@
 -- The walk over transitions, each taken at most once, and what its code promises. A transition is named by its place; marks say which
 -- are taken, and a queue holds those in the order in which they were.
-use Rattle.std.specs.Prelude.{ℕ, zero, suc, ◌+◌, ◌<◌, ◌≤◌, ◌≡◌, ◌⊎◌, List, Bool, true, false, cond, not, ◌&&◌, ◌||◌, length, get_or, set, eqb}
+use Rattle.std.specs.Prelude.{ℕ, zero, suc, ◌+◌, ◌<◌, ◌≤◌, ◌≡◌, ◌⊎◌, List, Bool, true, false, cond, not, ◌&&◌, ◌||◌, length, get_or, set, eqb, Option}
 use Rattle.reading.specs.Limits.{max_list}
 use Rattle.reading.specs.Text.{Name, read_name}
 use Rattle.reading.specs.Combine.{list_of}
@@ -8,7 +8,6 @@ use Rattle.reading.specs.Transition.{Transition}
 use Rattle.reading.specs.Skip.{text_at}
 use Rattle.typing.specs.Names.{eq_name}
 use Rattle.typing.specs.Lanes.{print}
-use Rattle.typing.specs.declared.table.Found.{Found}
 use Rattle.findings.specs.Lists.{Placed, placed, any, each}
 use Rattle.findings.specs.Finding.{Note, note, noted}
 use Rattle.findings.specs.Noting.{Noted}
@@ -99,5 +98,5 @@ module _ (s : List ℕ) (owner : ℕ) (o : List ℕ) (skip n r : ℕ) (o' : List
   pub record NotesUnledAt (list : ℕ) : Type 0 where
     pub of : (h : Moves s rows prints count) (ws : List Name) → Reads (list_of max_list read_name) s list ws → Noted owner o skip n (each (unled_note m (text_at s at) h) (placed 0 ws)) r o'
 
-  pub record NotesUnledStates (found : Found) : Type 0 where
+  pub record NotesUnledStates (found : Option ℕ) : Type 0 where
     pub of : (h : Moves s rows prints count) (vs : List Name) → StatesAt s found vs → Noted owner o skip n (each (unled_note m (text_at s at) h) (placed 0 vs)) r o'

@@ -1,5 +1,5 @@
 -- Places of a document in tables: those of the fields of a record, and of each record of a list.
-use Rattle.std.specs.Prelude.{ℕ, zero, suc, ◌+◌, ◌*◌, ◌<◌, ◌≤◌, ◌≡◌, List, [], ◌∷◌, ◌++◌, length, get_or, set, take, drop}
+use Rattle.std.specs.Prelude.{ℕ, zero, suc, ◌+◌, ◌*◌, ◌<◌, ◌≤◌, ◌≡◌, List, [], ◌∷◌, ◌++◌, length, get_or, set, take, drop, Option, Some, None}
 use Rattle.std.proofs.Math.Option.{some}
 use Rattle.std.proofs.Math.ListN.{get_elem?}
 use Rattle.std.proofs.lemmas.List.Edits.{sets}
@@ -17,8 +17,6 @@ use Rattle.typing.specs.Table.{after_item, after_head, pairs_at, Past}
 use Rattle.typing.specs.First.{GroupsAt}
 use Rattle.typing.specs.Rolls.{OutputsAt, FillsOutputs}
 use Rattle.findings.specs.declared.rows.Listed.{Listed}
-use Rattle.typing.specs.declared.table.Found.{Found}
-use Rattle.typing.specs.declared.table.Found.TheVariants.{At, Nothing}
 
 -- so many items from a place on, one after another: their places, and the place after them
 unfoldable pub row_from : ℕ → List ℕ → ℕ → List ℕ
@@ -62,9 +60,10 @@ pub record RowsFilled (s : List ℕ) (at : ℕ) (table : List ℕ) (r : Listed) 
 abbrev pub Bytes : List ℕ → Type 0
 Bytes s = (i : ℕ) → get_or s i 0 < 256
 
--- the name and the absent variant of a pattern stand from a place to r, where r is not 0
+-- the name and the absent variant of a pattern stand from a place to r
 pub record PastBare (s : List ℕ) (name r : ℕ) : Type 0 where
-  pub of : 0 < r → Items s 2 name r × (r ≤ length s)
+  pub items : Items s 2 name r
+  pub within : r ≤ length s
 
 -- content reads at a place
 pub record Reads {A : Type 0} (F : Reader A) (s : List ℕ) (at : ℕ) (x : A) : Type 0 where
@@ -126,9 +125,9 @@ pub record Scene (s places : List ℕ) (m : Module) : Type 0 where
   pub output_groups : OutputsAt s (outputs_in places) m.outputs
 
 -- the variants of the first enum called State stand at a place; there are none where there is no such enum
-pub data StatesAt (s : List ℕ) : Found → List Name → Type 0 where
-  states_here : {k : ℕ} {vs : List Name} → Reads read_names s k vs → StatesAt s (At k) vs
-  states_none : StatesAt s Nothing []
+pub data StatesAt (s : List ℕ) : Option ℕ → List Name → Type 0 where
+  states_here : {k : ℕ} {vs : List Name} → Reads read_names s k vs → StatesAt s (Some k) vs
+  states_none : StatesAt s None []
 
 -- the tables of a module: the places of its fields and of its transitions' fields, how many transitions there are, and its end
 pub record Opened (s : List ℕ) (r : Listed) (places rows : List ℕ) (m : Module) (n : ℕ) : Type 0 where

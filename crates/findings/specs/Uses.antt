@@ -1,6 +1,6 @@
 -- Which variants of a group of events patterns use, and what the search for them promises: for whatever reads there, its answer is
 -- the definition's.
-use Rattle.std.specs.Prelude.{ℕ, ◌+◌, ◌*◌, ◌<◌, ◌≤◌, ◌≡◌, List, [], ◌∷◌, ◌++◌, map, Bool, true, false, cond, not, ◌&&◌, ◌||◌, length, get_or}
+use Rattle.std.specs.Prelude.{ℕ, ◌+◌, ◌*◌, ◌≤◌, ◌≡◌, List, [], ◌∷◌, ◌++◌, map, Bool, true, false, cond, not, ◌&&◌, ◌||◌, length, Option as Maybe, Some, None}
 use Rattle.std.proofs.Math.Option.{Option, none, some}
 use Rattle.std.proofs.Math.ListN.{get_elem?}
 use Rattle.reading.specs.Limits.{max_list}
@@ -13,8 +13,6 @@ use Rattle.reading.specs.Skip.{text_at}
 use Rattle.typing.specs.Names.{eq_name, member}
 use Rattle.typing.specs.Patterns.{declared_name, pattern_variant_name}
 use Rattle.typing.specs.Table.{after_head}
-use Rattle.typing.specs.declared.table.Found.{Found}
-use Rattle.typing.specs.declared.table.Found.TheVariants.{At, Nothing}
 use Rattle.findings.specs.Lists.{Placed, placed, any, each}
 use Rattle.findings.specs.Finding.{Note, note, noted}
 use Rattle.typing.specs.First.{GroupsAt}
@@ -59,9 +57,9 @@ pub record NamesAt (s table : List ℕ) (count : ℕ) (ns : List Name) : Type 0 
   pub at : (k : ℕ) (w : Name) → get_elem? ns k ≡ some w → VariantAt s table k w
 
 -- the names of the variants of a list that was found
-pub data VariantsAt (s : List ℕ) : Found → List Name → Type 0 where
-  variants_here : {k : ℕ} {xs : List ConstructorVariant} → Reads (list_of max_list read_constructor_variant) s k xs → VariantsAt s (At k) (map declared_name xs)
-  variants_none : VariantsAt s Nothing []
+pub data VariantsAt (s : List ℕ) : Maybe ℕ → List Name → Type 0 where
+  variants_here : {k : ℕ} {xs : List ConstructorVariant} → Reads (list_of max_list read_constructor_variant) s k xs → VariantsAt s (Some k) (map declared_name xs)
+  variants_none : VariantsAt s None []
 
 -- what is added by a pattern's variant, and by a pattern; and what all transitions give
 pub record AddsVariant (s : List ℕ) (at : ℕ) (table : List ℕ) (u : Uses) (table' : List ℕ) (u' : Uses) : Type 0 where
@@ -78,38 +76,33 @@ pub record AddsUse (s : List ℕ) (at : ℕ) (g : Name) (table : List ℕ) (u : 
 abbrev pub GroupPrint : List ℕ → List ℕ → ℕ → ℕ → Type 0
 GroupPrint s rows i r = r ≡ print 0 (text_at s (after_head s (field rows i 2)))
 
--- from one place on and before another none has the mark
-pub record NextMarked (marks : List ℕ) (mark from r : ℕ) : Type 0 where
-  pub low : from ≤ r
-  pub passed : (j : ℕ) → from ≤ j → j < r → get_or marks j 0 ≡ mark → ⊥
-
 pub record UsesOf (s rows : List ℕ) (count : ℕ) (g : Name) (table : List ℕ) (u : Uses) : Type 0 where
   pub names : (ts : List Transition) → Rows s rows ts → count ≡ length ts → NamesAt s table u.named (named_by g ts)
   pub bare : (ts : List Transition) → Rows s rows ts → count ≡ length ts → u.bare ≡ bare_by g ts
 
 -- questions
-pub record HasVariant (s : List ℕ) (found : Found) (w : Name) (r : Bool) : Type 0 where
+pub record HasVariant (s : List ℕ) (found : Maybe ℕ) (w : Name) (r : Bool) : Type 0 where
   pub of : (vs : List Name) → VariantsAt s found vs → r ≡ member w vs
 
-pub record IsUsed (s : List ℕ) (found : Found) (table : List ℕ) (bare : Bool) (at : ℕ) (r : Bool) : Type 0 where
+pub record IsUsed (s : List ℕ) (found : Maybe ℕ) (table : List ℕ) (bare : Bool) (at : ℕ) (r : Bool) : Type 0 where
   pub of : (vs ns : List Name) → VariantsAt s found vs → Variants s table ns → r ≡ used_by bare vs ns (text_at s at)
 
 -- what is known of a group's uses: the variants of the first group of its name, and the names that patterns give
-pub record GroupKnown (s : List ℕ) (found : Found) (table : List ℕ) : Type 0 where
+pub record GroupKnown (s : List ℕ) (found : Maybe ℕ) (table : List ℕ) : Type 0 where
   pub variants : List Name
   pub names : List Name
   pub variants_at : VariantsAt s found variants
   pub named : Variants s table names
 
 -- a variant of group g, by what is known
-abbrev pub unused_variant : {s : List ℕ} {found : Found} {table : List ℕ} → Bool → ℕ → GroupKnown s found table → Placed ConstructorVariant → List Note
+abbrev pub unused_variant : {s : List ℕ} {found : Maybe ℕ} {table : List ℕ} → Bool → ℕ → GroupKnown s found table → Placed ConstructorVariant → List Note
 unused_variant bare g h v = noted (not (used_by bare h.variants h.names (declared_name v.item))) (note 22 g v.place 0)
 
 module _ (s : List ℕ) (owner : ℕ) (o : List ℕ) (skip n r : ℕ) (o' : List ℕ) where
-  pub record NotesVariant (found : Found) (table : List ℕ) (bare : Bool) (g at j : ℕ) : Type 0 where
+  pub record NotesVariant (found : Maybe ℕ) (table : List ℕ) (bare : Bool) (g at j : ℕ) : Type 0 where
     pub of : (h : GroupKnown s found table) (x : ConstructorVariant) → Reads read_constructor_variant s at x → Noted owner o skip n (unused_variant bare g h (at_place j x)) r o'
 
-  pub record NotesVariants (found : Found) (table : List ℕ) (bare : Bool) (g at : ℕ) : Type 0 where
+  pub record NotesVariants (found : Maybe ℕ) (table : List ℕ) (bare : Bool) (g at : ℕ) : Type 0 where
     pub of : (h : GroupKnown s found table) (xs : List ConstructorVariant) → Reads (list_of max_list read_constructor_variant) s at xs → Noted owner o skip n (each (unused_variant bare g h) (placed 0 xs)) r o'
 
   -- group g of a table of groups, and all of them

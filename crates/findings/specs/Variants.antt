@@ -1,5 +1,5 @@
 -- A table of names, two words each: the print of a name and its place. It is that of the State variants, or of those that patterns use.
-use Rattle.std.specs.Prelude.{ℕ, ◌+◌, ◌*◌, ◌≡◌, List, [], ◌∷◌, Bool, true, length, get_or, take}
+use Rattle.std.specs.Prelude.{ℕ, ◌+◌, ◌*◌, ◌≡◌, List, [], ◌∷◌, Bool, true, length, get_or, take, Option}
 use Rattle.std.proofs.Math.Option.{some}
 use Rattle.std.proofs.Math.ListN.{get_elem?}
 use Rattle.std.proofs.lemmas.List.Edits.{sets}
@@ -9,7 +9,6 @@ use Rattle.reading.specs.Combine.{list_of}
 use Rattle.reading.specs.Skip.{text_at}
 use Rattle.typing.specs.Names.{eq_name, member}
 use Rattle.typing.specs.Lanes.{print}
-use Rattle.typing.specs.declared.table.Found.{Found}
 use Rattle.findings.specs.Scene.{Reads, StatesAt}
 
 -- the words of the name number j, and those of each name
@@ -29,7 +28,7 @@ put_variant s at j table = sets table (2 * j) (print 0 (text_at s at) ∷ at ∷
 pub record NamesFilled (s : List ℕ) (at words : ℕ) (table : List ℕ) : Type 0 where
   pub of : (vs : List Name) → Reads (list_of max_list read_name) s at vs → Variants s (take words table) vs
 
-pub record StatesFilled (s : List ℕ) (found : Found) (words : ℕ) (table : List ℕ) : Type 0 where
+pub record StatesFilled (s : List ℕ) (found : Option ℕ) (words : ℕ) (table : List ℕ) : Type 0 where
   pub of : (vs : List Name) → StatesAt s found vs → Variants s (take words table) vs
 
 -- whether the name at a place, which has the print, is name number j, and whether it is one of them

@@ -1,5 +1,5 @@
 -- What a walk over modules promises: errors go to one buffer and warnings to another, each in the order of the list.
-use Rattle.std.specs.Prelude.{ℕ, ◌<◌, ◌≤◌, ◌≡◌, List, length}
+use Rattle.std.specs.Prelude.{ℕ, ◌<◌, ◌≤◌, ◌≡◌, List, length, Ok}
 use Rattle.reading.specs.Read.{ok}
 use Rattle.reading.specs.Limits.{max_modules}
 use Rattle.reading.specs.Combine.{list_of}
@@ -12,10 +12,8 @@ use Rattle.findings.specs.Sheet.{put, Written}
 use Rattle.findings.specs.Noting.{Noted}
 use Rattle.findings.specs.Scene.{Bytes, Reads, Rows, Scene}
 use Rattle.findings.specs.Prints.{Prints}
-use Rattle.findings.specs.Reply.{reply_to, sheet_of, counts_to, errors_in, warnings_in, line_to}
-use Rattle.findings.specs.declared.whole.Totals.{Totals}
-use Rattle.findings.specs.declared.reply.Reply.{Reply}
-use Rattle.findings.specs.declared.reply.Line.{Line}
+use Rattle.findings.specs.Reply.{Reply, Line, reply_to, sheet_of, counts_to, errors_in, warnings_in, line_to}
+use Rattle.findings.specs.declared.reply.Counts.{Counts}
 
 -- the buffer o, skip and the next number n before; the next number r and the buffer o' after; the second for warnings
 module _ (s o : List ℕ) (skip n r : ℕ) (o' p : List ℕ) (leave k q : ℕ) (p' : List ℕ) where
@@ -60,16 +58,16 @@ pub record Replies (s o : List ℕ) (r : Reply) (o' : List ℕ) : Type 0 where
   pub of : (x : Ir) (n : ℕ) → read_document s ≡ ok x n → (r ≡ reply_to o (ok x n)) × (o' ≡ sheet_of o (ok x n))
 
 -- the same from what a walk kept of the errors and of the warnings, and how many it counted
-pub record PutsAll (s e' w' : List ℕ) (t : Totals) (o : List ℕ) (r : Reply) (o' : List ℕ) : Type 0 where
+pub record PutsAll (s e' w' : List ℕ) (t : Counts) (o : List ℕ) (r : Reply) (o' : List ℕ) : Type 0 where
   pub of : (e w : List ℕ) → WalksAll s e 0 0 t.errors e' w 0 0 t.warnings w' → Replies s o r o'
 
 -- where the walk kept all of them, whatever the document
-pub record PutsKept (e' w' : List ℕ) (t : Totals) (o : List ℕ) (r : Reply) (o' : List ℕ) : Type 0 where
+pub record PutsKept (e' w' : List ℕ) (t : Counts) (o : List ℕ) (r : Reply) (o' : List ℕ) : Type 0 where
   pub of : (s : List ℕ) → PutsAll s e' w' t o r o'
 
 -- the answer where errors and warnings each have words of their own, and those words afterwards
-pub record ByKind (s e w : List ℕ) (r : Reply) (e' w' : List ℕ) : Type 0 where
-  pub of : (x : Ir) (n : ℕ) → read_document s ≡ ok x n → (r ≡ counts_to (ok x n)) × (e' ≡ errors_in e (ok x n)) × (w' ≡ warnings_in w (ok x n))
+pub record ByKind (s e w : List ℕ) (r : Counts) (e' w' : List ℕ) : Type 0 where
+  pub of : (x : Ir) (n : ℕ) → read_document s ≡ ok x n → (Ok r ≡ counts_to (ok x n)) × (e' ≡ errors_in e (ok x n)) × (w' ≡ warnings_in w (ok x n))
 
 -- finding number k of a document that reads
 pub record Lines (s : List ℕ) (k : ℕ) (r : Line) : Type 0 where

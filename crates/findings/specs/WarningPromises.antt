@@ -1,5 +1,5 @@
 -- What the code of each part of a module's warnings promises: for whatever reads there, it notes what the definition says.
-use Rattle.std.specs.Prelude.{ℕ, ◌≡◌, List, length}
+use Rattle.std.specs.Prelude.{ℕ, ◌≡◌, List, length, Option as Maybe}
 use Rattle.std.proofs.Math.Option.{Option}
 use Rattle.reading.specs.Text.{Name, read_name}
 use Rattle.reading.specs.Expr.{Expr}
@@ -8,7 +8,6 @@ use Rattle.reading.specs.Decl.{ConstructorGroup}
 use Rattle.reading.specs.Transition.{Transition, read_top_expr}
 use Rattle.reading.specs.Module.{Module}
 use Rattle.typing.specs.First.{GroupsAt}
-use Rattle.typing.specs.declared.table.Found.{Found}
 use Rattle.findings.specs.Lists.{placed, each}
 use Rattle.findings.specs.Mentions.{all_touched}
 use Rattle.findings.specs.Warnings.{unreachable, dead, unused, impossible_guard, impossible}
@@ -22,7 +21,7 @@ pub record NotesGuardImpossible (s : List ℕ) (owner : ℕ) (o : List ℕ) (ski
 
 module _ (s : List ℕ) (owner : ℕ) (o : List ℕ) (skip n r : ℕ) (o' : List ℕ) (rows : List ℕ) (count : ℕ) where
   -- site 21
-  pub record NotesUnreachable (prints : List ℕ) (found : Found) (at : ℕ) : Type 0 where
+  pub record NotesUnreachable (prints : List ℕ) (found : Maybe ℕ) (at : ℕ) : Type 0 where
     pub of : (vs : List Name) (w : Option Name) (ts : List Transition) → StatesAt s found vs → Reads (optional read_name) s at w → Rows s rows ts → Prints prints ts → count ≡ length ts → Noted owner o skip n (unreachable vs w ts) r o'
 
   -- site 22

@@ -13,7 +13,7 @@ use crate::pairs::same_fields;
 fn note_later(
     doc: &[u8],
     rows: &[usize],
-    prints: &[u32],
+    prints: &[u32; 768],
     kinds: &[u8; 256],
     guards: &[u8; 256],
     count: u8,
@@ -33,12 +33,10 @@ fn note_later(
     let bare = no_priority(doc, rows, i);
     let kind = kinds[i as usize];
     let mut m = n;
-    let mut j = i + 1;
-    while j < count {
+    for j in i + 1..count {
         if kinds[j as usize] == kind {
             m = note_pair(guards, bare, warn, i, j, out, skip, m, owner);
         }
-        j += 1;
     }
     m
 }
@@ -47,7 +45,7 @@ fn note_later(
 fn note_row(
     doc: &[u8],
     rows: &[usize],
-    prints: &[u32],
+    prints: &[u32; 768],
     kinds: &[u8; 256],
     guards: &[u8; 256],
     count: u8,
@@ -77,7 +75,7 @@ fn note_row(
 fn note_of_state(
     doc: &[u8],
     rows: &[usize],
-    prints: &[u32],
+    prints: &[u32; 768],
     kinds: &[u8; 256],
     guards: &[u8; 256],
     count: u8,
@@ -88,7 +86,6 @@ fn note_of_state(
     n: usize,
     owner: u32,
 ) -> usize
-    requires in_bounds { 768 ≤ length prints.now }
     requires classed { Classed doc.now rows.now prints.now count kinds.now guards.now }
     requires n_bound { n + 130050 ≤ 2 ^ 40 }
     ensures notes_of_state { NotesOfState doc.now owner out.old skip n result out.new rows.now prints.now count warn b }
@@ -97,15 +94,13 @@ fn note_of_state(
     let at = 3 * (b as usize);
     let key = prints[at];
     let mut m = n;
-    let mut i: u8 = 0;
-    while i < count {
+    for i in 0..count {
         let k = 3 * (i as usize);
         if prints[k] == key {
             m = note_row(
                 doc, rows, prints, kinds, guards, count, warn, b, i, out, skip, m, owner,
             );
         }
-        i += 1;
     }
     m
 }
@@ -114,7 +109,7 @@ fn note_of_state(
 fn note_states(
     doc: &[u8],
     rows: &[usize],
-    prints: &[u32],
+    prints: &[u32; 768],
     kinds: &[u8; 256],
     guards: &[u8; 256],
     count: u8,
@@ -124,7 +119,6 @@ fn note_states(
     n: usize,
     owner: u32,
 ) -> usize
-    requires in_bounds { 768 ≤ length prints.now }
     requires classed { Classed doc.now rows.now prints.now count kinds.now guards.now }
     requires n_bound { n + 33162750 ≤ 2 ^ 40 }
     ensures notes_pairs { NotesPairs doc.now owner out.old skip n result out.new rows.now prints.now count warn }
@@ -132,17 +126,14 @@ fn note_states(
 {
     let mut done = lone(kinds, count);
     let mut m = n;
-    let mut turns: u8 = 0;
-    while turns < count {
-        let b = next_state(doc, rows, &done, count);
-        if count <= b {
+    for _turn in 0..count {
+        let Some(b) = next_state(doc, rows, &done, count) else {
             return m;
-        }
+        };
         m = note_of_state(
             doc, rows, prints, kinds, guards, count, warn, b, out, skip, m, owner,
         );
         done = mark_state(doc, rows, prints, count, b, done);
-        turns += 1;
     }
     m
 }
@@ -151,7 +142,7 @@ fn note_states(
 pub(crate) fn note_by_state(
     doc: &[u8],
     rows: &[usize],
-    prints: &[u32],
+    prints: &[u32; 768],
     count: u8,
     warn: bool,
     out: &mut [u32],
@@ -159,8 +150,7 @@ pub(crate) fn note_by_state(
     n: usize,
     owner: u32,
 ) -> usize
-    requires in_bounds { 768 ≤ length prints.now }
-    requires n_bound { n + 33162750 ≤ 2 ^ 40 }
+    requires { n + 33162750 ≤ 2 ^ 40 }
     ensures notes_pairs { NotesPairs doc.now owner out.old skip n result out.new rows.now prints.now count warn }
     ensures upper_bound { result ≤ n + 33162750 }
 {

@@ -10,8 +10,8 @@ pub(crate) fn typed_number(doc: &[u8], t: Typed) -> u32
     ensures { TypedNumber doc.now t result }
 {
     match t {
-        Typed::Is(_, _) => 0,
-        Typed::Fails(cause) => cause_number(doc, cause),
+        Ok((_, _)) => 0,
+        Err(cause) => cause_number(doc, cause),
     }
 }
 

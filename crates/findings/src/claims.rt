@@ -5,7 +5,7 @@ ghost use Rattle.findings.specs.Promises.{earlier_in, NotesRepeats, NotesFormula
 
 use crate::sheet::{emit_cause, emit_if};
 use reading::text_at;
-use typing::{Found, bounded_always_error, fit_number, lane_add, lane_find, type_formula, word};
+use typing::{bounded_always_error, fit_number, lane_add, lane_find, type_formula, word};
 
 // Whether the name of number i stands under a smaller number too, by the lanes of those.
 fn stands_earlier<'a>(
@@ -19,11 +19,7 @@ fn stands_earlier<'a>(
     ensures { result ≡ earlier_in doc.now table.now i }
 {
     let name = word(table, 2 * i);
-    let f = lane_find(doc, table, i, heads, links, text_at(doc, name));
-    match f {
-        Found::At(_) => true,
-        Found::Nothing => false,
-    }
+    lane_find(doc, table, i, heads, links, text_at(doc, name)).is_some()
 }
 
 // The names that stand earlier too.
@@ -44,12 +40,10 @@ pub(crate) fn note_repeats<'a>(
     let mut links = [0u16; 510];
     let many = table.len() / 2;
     let mut r = n;
-    let mut i: usize = 0;
-    while i < many {
+    for i in 0..many {
         let earlier = stands_earlier(doc, table, i, &heads, &links);
         r = emit_if(earlier, out, skip, r, owner, 18, i as u32, 0);
         lane_add(doc, table, i, &mut heads, &mut links);
-        i += 1;
     }
     r
 }
@@ -95,11 +89,9 @@ pub(crate) fn note_formulas<'a>(
 {
     let many = table.len() / 2;
     let mut r = n;
-    let mut i: usize = 0;
-    while i < many {
+    for i in 0..many {
         let at = word(table, 2 * i + 1);
         r = note_formula(doc, at, names, enums, out, skip, r, owner, i as u32);
-        i += 1;
     }
     r
 }

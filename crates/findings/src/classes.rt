@@ -4,7 +4,7 @@ ghost use Rattle.findings.specs.Scene.{Rows};
 ghost use Rattle.findings.specs.Classes.{kind_of, guard_of, SameKind, FirstAt, GuardPrint, Known, Tabled, unmarked, Lone};
 
 use crate::pairs::{alike, same_guard};
-use crate::prints::print_part;
+use crate::prints::{print_part, tabulate};
 use crate::priority::same_priority;
 use crate::rows::field;
 
@@ -12,50 +12,40 @@ use crate::rows::field;
 fn same_kind(doc: &[u8], rows: &[usize], i: u8, j: u8) -> bool
     ensures { SameKind doc.now rows.now i j result }
 {
-    if alike(doc, rows, i, j) {
-        return same_priority(doc, field(rows, i, 7), field(rows, j, 7));
-    }
-    false
+    alike(doc, rows, i, j) && same_priority(doc, field(rows, i, 7), field(rows, j, 7))
 }
 
 // The first transition of the kind of transition i.
-fn first_kind(doc: &[u8], rows: &[usize], prints: &[u32], count: u8, i: u8) -> u8
-    requires { 768 ≤ length prints.now }
+fn first_kind(doc: &[u8], rows: &[usize], prints: &[u32; 768], count: u8, i: u8) -> u8
     ensures { FirstAt kind_of (Known doc.now rows.now prints.now) count i result }
 {
     let at = 3 * (i as usize) + 2;
     let key = prints[at];
-    let mut j: u8 = 0;
-    while j < i {
+    for j in 0..i {
         let k = 3 * (j as usize) + 2;
-        if prints[k] == key {
-            if same_kind(doc, rows, j, i) {
-                return j;
-            }
+        if prints[k] == key && same_kind(doc, rows, j, i) {
+            return j;
         }
-        j += 1;
     }
     i
 }
 
 // For each transition the first one of its kind: it is looked for only where the remainder of the key was seen.
-pub(crate) fn first_kinds(doc: &[u8], rows: &[usize], prints: &[u32], count: u8) -> [u8; 256]
-    requires { 768 ≤ length prints.now }
+pub(crate) fn first_kinds(doc: &[u8], rows: &[usize], prints: &[u32; 768], count: u8) -> [u8; 256]
     ensures { Tabled (FirstAt kind_of (Known doc.now rows.now prints.now) count) count result }
 {
     let mut seen: [u8; 2048] = [0; 2048];
     let mut kinds: [u8; 256] = [0; 256];
-    let mut i: u8 = 0;
-    while i < count {
+    for i in 0..count {
         let at = 3 * (i as usize) + 2;
         let w = (prints[at] % 2039) as usize;
-        let mut first = i;
-        if seen[w] != 0 {
-            first = first_kind(doc, rows, prints, count, i);
-        }
+        let first = if seen[w] != 0 {
+            first_kind(doc, rows, prints, count, i)
+        } else {
+            i
+        };
         seen[w] = 1;
         kinds[i as usize] = first;
-        i += 1;
     }
     kinds
 }
@@ -76,10 +66,8 @@ pub(crate) fn lone(kinds: &[u8; 256], count: u8) -> [u8; 256]
     ensures { Lone count kinds.now result }
 {
     let mut marks: [u8; 256] = [1; 256];
-    let mut i: u8 = 0;
-    while i < count {
+    for i in 0..count {
         unmark(&mut marks, i, kinds[i as usize]);
-        i += 1;
     }
     marks
 }
@@ -95,13 +83,7 @@ fn print_guard(doc: &[u8], rows: &[usize], i: u8) -> u32
 fn print_guards(doc: &[u8], rows: &[usize], count: u8) -> [u32; 256]
     ensures { Tabled (GuardPrint doc.now rows.now) count result }
 {
-    let mut marks: [u32; 256] = [0; 256];
-    let mut i: u8 = 0;
-    while i < count {
-        marks[i as usize] = print_guard(doc, rows, i);
-        i += 1;
-    }
-    marks
+    tabulate(count, |i| print_guard(doc, rows, i))
 }
 
 // The first transition that has the guard of transition i.
@@ -110,35 +92,31 @@ fn first_guard(doc: &[u8], rows: &[usize], marks: &[u32; 256], count: u8, i: u8)
     ensures { FirstAt guard_of (Rows doc.now rows.now) count i result }
 {
     let mark = marks[i as usize];
-    let mut j: u8 = 0;
-    while j < i {
-        if marks[j as usize] == mark {
-            if same_guard(doc, rows, j, i) {
-                return j;
-            }
+    for j in 0..i {
+        if marks[j as usize] == mark && same_guard(doc, rows, j, i) {
+            return j;
         }
-        j += 1;
     }
     i
 }
 
-// For each transition the first one that has its guard: likewise by the remainder of the guard's print.
+// For each transition the first one that has its guard: likewise by the remainder of the guard's print. It stands beside `first_kinds`
+// by itself: keys, test and the fact that ties them differ, and a shared one would take three closures.
 pub(crate) fn first_guards(doc: &[u8], rows: &[usize], count: u8) -> [u8; 256]
     ensures { Tabled (FirstAt guard_of (Rows doc.now rows.now) count) count result }
 {
     let marks = print_guards(doc, rows, count);
     let mut seen: [u8; 2048] = [0; 2048];
     let mut guards: [u8; 256] = [0; 256];
-    let mut i: u8 = 0;
-    while i < count {
+    for i in 0..count {
         let w = (marks[i as usize] % 2039) as usize;
-        let mut first = i;
-        if seen[w] != 0 {
-            first = first_guard(doc, rows, &marks, count, i);
-        }
+        let first = if seen[w] != 0 {
+            first_guard(doc, rows, &marks, count, i)
+        } else {
+            i
+        };
         seen[w] = 1;
         guards[i as usize] = first;
-        i += 1;
     }
     guards
 }

@@ -6,14 +6,14 @@ ghost use Rattle.findings.specs.WarningPromises.{NotesDead};
 
 use crate::sheet::emit_if;
 use crate::uses::{Uses, fill_uses, is_used, print_groups};
-use reading::{Answer, Cursor, text_at};
-use typing::{Found, after, after_tag, first_variants};
+use reading::{Cursor, text_at};
+use typing::{after, after_tag, first_variants};
 
 // The variant at a place, number j of group g.
 pub(crate) fn note_variant<'a>(
     doc: &'a [u8],
     at: usize,
-    found: Found,
+    found: Option<usize>,
     names: &'a [usize],
     hints: &'a [u8; 256],
     bare: bool,
@@ -37,7 +37,7 @@ pub(crate) fn note_variant<'a>(
 pub(crate) fn note_variants<'a>(
     doc: &'a [u8],
     at: usize,
-    found: Found,
+    found: Option<usize>,
     names: &'a [usize],
     hints: &'a [u8; 256],
     bare: bool,
@@ -53,18 +53,16 @@ pub(crate) fn note_variants<'a>(
 {
     let c = Cursor { at };
     let a = c.count(doc, 255);
-    let Answer::Got(count, first) = a else {
+    let Ok((count, first)) = a else {
         return n;
     };
     let mut k = first.at;
     let mut m = n;
-    let mut j: u64 = 0;
-    while j < count {
+    for j in 0..count {
         m = note_variant(
             doc, k, found, names, hints, bare, g, j as u32, out, skip, m, owner,
         );
         k = after(doc, k);
-        j += 1;
     }
     m
 }
@@ -73,8 +71,8 @@ pub(crate) fn note_variants<'a>(
 fn note_by_uses<'a>(
     doc: &'a [u8],
     at: usize,
-    found: Found,
-    uses: &'a [usize],
+    found: Option<usize>,
+    uses: &'a [usize; 510],
     hints: &'a [u8; 256],
     u: Uses,
     g: u32,
@@ -83,8 +81,7 @@ fn note_by_uses<'a>(
     n: usize,
     owner: u32,
 ) -> usize
-    requires uses_len { length uses.now ≡ 510 }
-    requires n_bound { n + 255 ≤ 2 ^ 40 }
+    requires { n + 255 ≤ 2 ^ 40 }
     ensures notes_variants { NotesVariants doc.now owner out.old skip n result out.new found (take (2 * u.named) uses.now) u.bare g at }
     ensures upper_bound { result ≤ n + 255 }
 {
@@ -112,7 +109,7 @@ pub(crate) fn note_group<'a>(
     marks: &'a [u32; 256],
     count: u8,
     g: u8,
-    uses: &mut [usize],
+    uses: &mut [usize; 510],
     hints: &mut [u8; 256],
     out: &mut [u32],
     skip: usize,
@@ -121,7 +118,6 @@ pub(crate) fn note_group<'a>(
 ) -> usize
     requires g_in_bounds { 2 * g + 1 < length groups.now }
     requires tabled { Tabled (GroupPrint doc.now rows.now) count marks.now }
-    requires uses_len { length uses.old ≡ 510 }
     requires n_bound { n + 255 ≤ 2 ^ 40 }
     ensures notes_group { NotesGroup doc.now owner out.old skip n result out.new rows.now count groups.now g }
     ensures upper_bound { result ≤ n + 255 }
@@ -144,7 +140,7 @@ pub(crate) fn note_groups<'a>(
     marks: &'a [u32; 256],
     count: u8,
     many: u8,
-    uses: &mut [usize],
+    uses: &mut [usize; 510],
     hints: &mut [u8; 256],
     out: &mut [u32],
     skip: usize,
@@ -153,18 +149,15 @@ pub(crate) fn note_groups<'a>(
 ) -> usize
     requires many_in_bounds { 2 * many ≤ length groups.now }
     requires tabled { Tabled (GroupPrint doc.now rows.now) count marks.now }
-    requires uses_len { length uses.old ≡ 510 }
     requires n_bound { n + 65025 ≤ 2 ^ 40 }
     ensures notes_groups { NotesGroups doc.now owner out.old skip n result out.new rows.now count groups.now many }
     ensures upper_bound { result ≤ n + 65025 }
 {
     let mut m = n;
-    let mut g: u8 = 0;
-    while g < many {
+    for g in 0..many {
         m = note_group(
             doc, groups, rows, marks, count, g, uses, hints, out, skip, m, owner,
         );
-        g += 1;
     }
     m
 }

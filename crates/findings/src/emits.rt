@@ -3,7 +3,7 @@ ghost use Rattle.std.specs.Prelude.{◌+◌, ◌≤◌, ◌^◌};
 ghost use Rattle.findings.specs.Promises.{NotesEmits};
 
 use crate::output::note_output;
-use reading::{Answer, Cursor};
+use reading::Cursor;
 use typing::after;
 
 // Site 13, of each output of the list at a place, by a table of the groups of outputs.
@@ -25,21 +25,19 @@ pub(crate) fn note_emits<'a>(
 {
     let c = Cursor { at };
     let a = c.count(doc, 255);
-    let Answer::Got(count, start) = a else {
+    let Ok((count, start)) = a else {
         return n;
     };
     let many = count as u8;
     let first = i as u32;
     let mut k = start.at;
-    let mut j: u8 = 0;
     let mut next = n;
-    while j < many {
+    for j in 0..many {
         let second = j as u32;
         next = note_output(
             doc, k, outputs, names, enums, out, skip, next, owner, 13, first, second,
         );
         k = after(doc, k);
-        j += 1;
     }
     next
 }

@@ -6,28 +6,25 @@ use crate::module::note_closing;
 use crate::opening::note_opening;
 use crate::pairs::note_pairs;
 use crate::transition::note_moves;
-use typing::Found;
 
 // Sites 1 to 13. The first block of the table has the module's variables.
 fn note_fore<'a>(
     doc: &'a [u8],
     places: &'a [usize],
     rows: &'a [usize],
-    prints: &'a [u32],
+    prints: &'a [u32; 768],
     count: u8,
-    found: Found,
-    table: &mut [usize],
+    found: Option<usize>,
+    table: &mut [usize; 1658],
     enums: &'a [usize],
     out: &mut [u32],
     skip: usize,
     n: usize,
     owner: u32,
 ) -> usize
-    requires n_bound { n + 131328 ≤ 2 ^ 40 }
-    requires in_bounds { 1658 ≤ length table.old }
+    requires { n + 131328 ≤ 2 ^ 40 }
     ensures notes_fore { NotesFore doc.now owner out.old skip n result out.new places.now found rows.now prints.now count (take 829 table.old) enums.now }
     ensures upper_bound { result ≤ n + 131328 }
-    ensures table_len_unchanged { length table.new ≡ length table.old }
     ensures table_unchanged { take 829 table.new ≡ take 829 table.old }
 {
     let moves = 0 < count;
@@ -53,22 +50,19 @@ fn note_most<'a>(
     doc: &'a [u8],
     places: &'a [usize],
     rows: &'a [usize],
-    prints: &'a [u32],
+    prints: &'a [u32; 768],
     count: u8,
-    found: Found,
-    table: &mut [usize],
+    found: Option<usize>,
+    table: &mut [usize; 1658],
     enums: &'a [usize],
     out: &mut [u32],
     skip: usize,
     n: usize,
     owner: u32,
 ) -> usize
-    requires in_bounds { 768 ≤ length prints.now }
-    requires n_bound { n + 33294078 ≤ 2 ^ 40 }
-    requires in_bounds_2 { 1658 ≤ length table.old }
+    requires { n + 33294078 ≤ 2 ^ 40 }
     ensures notes_most { NotesMost doc.now owner out.old skip n result out.new places.now found rows.now prints.now count (take 829 table.old) enums.now }
     ensures upper_bound { result ≤ n + 33294078 }
-    ensures table_len_unchanged { length table.new ≡ length table.old }
     ensures table_unchanged { take 829 table.new ≡ take 829 table.old }
 {
     let a = note_fore(
@@ -81,8 +75,8 @@ fn note_most<'a>(
 fn note_aft<'a>(
     doc: &'a [u8],
     places: &'a [usize],
-    found: Found,
-    table: &'a [usize],
+    found: Option<usize>,
+    table: &'a [usize; 1658],
     enums: &'a [usize],
     claims: &'a [usize],
     out: &mut [u32],
@@ -90,7 +84,6 @@ fn note_aft<'a>(
     n: usize,
     owner: u32,
 ) -> usize
-    requires in_bounds { 1658 ≤ length table.now }
     requires claims_len_bound { length claims.now ≤ 1020 }
     requires n_bound { n + 1786 ≤ 2 ^ 40 }
     ensures notes_closing { NotesClosing doc.now owner out.old skip n result out.new places.now found (take 829 table.now) enums.now claims.now }
@@ -107,10 +100,10 @@ pub(crate) fn note_errors<'a>(
     doc: &'a [u8],
     places: &'a [usize],
     rows: &'a [usize],
-    prints: &'a [u32],
+    prints: &'a [u32; 768],
     count: u8,
-    found: Found,
-    table: &mut [usize],
+    found: Option<usize>,
+    table: &mut [usize; 1658],
     enums: &'a [usize],
     claims: &'a [usize],
     out: &mut [u32],
@@ -119,9 +112,7 @@ pub(crate) fn note_errors<'a>(
     owner: u32,
 ) -> usize
     requires n_bound { n + 33295864 ≤ 2 ^ 40 }
-    requires in_bounds { 1658 ≤ length table.old }
     requires claims_len_bound { length claims.now ≤ 1020 }
-    requires in_bounds_2 { 768 ≤ length prints.now }
     ensures notes_errors { NotesErrors doc.now owner out.old skip n result out.new places.now found rows.now prints.now count (take 829 table.old) enums.now claims.now }
     ensures upper_bound { result ≤ n + 33295864 }
 {

@@ -3,7 +3,7 @@ ghost use Rattle.std.specs.Prelude.{◌+◌, ◌≤◌, ◌^◌};
 ghost use Rattle.findings.specs.Promises.{NotesGuard};
 
 use crate::sheet::{emit, emit_if};
-use typing::{Typed, cause_number, is_bool, null_at, type_expr};
+use typing::{cause_number, is_bool, null_at, type_expr};
 
 // Sites 9 and 10, of transition i, whose guard stands at a place; it may be absent.
 pub(crate) fn note_guard<'a>(
@@ -27,11 +27,11 @@ pub(crate) fn note_guard<'a>(
     let first = i as u32;
     let t = type_expr(doc, at, 32, names, enums);
     match t {
-        Typed::Is(ty, _) => {
+        Ok((ty, _)) => {
             let other = !is_bool(doc, ty);
             emit_if(other, out, skip, n, owner, 10, first, 0)
         }
-        Typed::Fails(cause) => {
+        Err(cause) => {
             let number = cause_number(doc, cause);
             emit(out, skip, n, owner, 9, first, 0, number)
         }

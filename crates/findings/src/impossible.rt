@@ -30,8 +30,8 @@ pub(crate) fn note_guard_impossible(
     }
     let c = contradictory_equalities(doc, at, end, 32);
     match c {
-        Clash::Nothing => n,
-        Clash::Found(_, _, _) => emit(out, skip, n, owner, 26, i, 0, 0),
+        None => n,
+        Some(Clash { .. }) => emit(out, skip, n, owner, 26, i, 0, 0),
     }
 }
 
@@ -69,10 +69,8 @@ pub(crate) fn note_impossible<'a>(
     ensures upper_bound { result ≤ n + 255 }
 {
     let mut m = n;
-    let mut i: u8 = 0;
-    while i < count {
+    for i in 0..count {
         m = note_row(doc, rows, i, out, skip, m, owner);
-        i += 1;
     }
     m
 }

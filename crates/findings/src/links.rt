@@ -4,15 +4,11 @@ ghost use Rattle.std.specs.Prelude.{◌≡◌, ◌≤◌, length, replicate};
 ghost use Rattle.findings.specs.Links.{Linked, Rising, Forth};
 
 // Fills the heads and the links.
-pub(crate) fn link_all(prints: &[u32], count: u8, heads: &mut [u8], links: &mut [u8])
-    requires in_bounds { 768 ≤ length prints.now }
-    requires heads_value { heads.old ≡ replicate 256 255 }
-    requires links_len { length links.old ≡ 256 }
+pub(crate) fn link_all(prints: &[u32; 768], count: u8, heads: &mut [u8; 256], links: &mut [u8; 256])
+    requires { heads.old ≡ replicate 256 255 }
     ensures { Linked prints.now count 0 heads.new links.new }
 {
-    let mut i = count;
-    while 0 < i {
-        i -= 1;
+    for i in (0..count).rev() {
         let at = 3 * (i as usize);
         let h = (prints[at] % 256) as usize;
         let k = i as usize;
@@ -22,13 +18,12 @@ pub(crate) fn link_all(prints: &[u32], count: u8, heads: &mut [u8], links: &mut 
 }
 
 // The first place on a lane, from a place on, that is not taken.
-pub(crate) fn next_free<'a>(marks: &'a [u8], links: &'a [u8], count: u8, from: u8) -> u8
-    requires marks_len { length marks.now ≡ 256 }
-    requires links_len { length links.now ≡ 256 }
-    requires rising { Rising count links.now }
+pub(crate) fn next_free<'a>(marks: &'a [u8; 256], links: &'a [u8; 256], count: u8, from: u8) -> u8
+    requires { Rising count links.now }
     ensures { Forth count links.now marks.now from result }
 {
     let mut i = from;
+    // A lane is followed by its links, not counted.
     while i < count {
         let k = i as usize;
         if marks[k] == 0 {

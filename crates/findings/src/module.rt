@@ -8,7 +8,7 @@ ghost use Rattle.findings.specs.ModulePromises.{Names, NotesClosing};
 use crate::claims::{note_formulas, note_repeats};
 use crate::on_error::note_on_error;
 use crate::rows::{Listed, fill_row, fill_rows, outputs_of};
-use typing::{Found, after, fill_block, fill_enums, fill_outputs, fill_table, store, word};
+use typing::{after, fill_block, fill_enums, fill_outputs, fill_table, store, word};
 
 // Fills the table of the groups at a place from a word on; how many words it takes goes into another.
 fn fill_group(doc: &[u8], at: usize, places: &mut [usize], w: usize, from: usize)
@@ -100,7 +100,7 @@ pub(crate) fn fill_names(
 pub(crate) fn note_closing<'a>(
     doc: &'a [u8],
     places: &'a [usize],
-    found: Found,
+    found: Option<usize>,
     names: &'a [usize],
     enums: &'a [usize],
     claims: &'a [usize],

@@ -4,8 +4,8 @@ ghost use Rattle.findings.specs.Promises.{NotesErrorEmits, NotesOnError};
 
 use crate::output::note_output;
 use crate::states::note_state;
-use reading::{Answer, Cursor};
-use typing::{Found, after, after_head, null_at};
+use reading::Cursor;
+use typing::{after, after_head, null_at};
 
 // The list of outputs at a place, by a table of the groups of outputs.
 pub(crate) fn note_error_emits<'a>(
@@ -25,18 +25,16 @@ pub(crate) fn note_error_emits<'a>(
 {
     let c = Cursor { at };
     let a = c.count(doc, 255);
-    let Answer::Got(count, first) = a else {
+    let Ok((count, first)) = a else {
         return n;
     };
     let mut k = first.at;
     let mut r = n;
-    let mut i: u64 = 0;
-    while i < count {
+    for i in 0..count {
         r = note_output(
             doc, k, outputs, names, enums, out, skip, r, owner, 17, i as u32, 0,
         );
         k = after(doc, k);
-        i += 1;
     }
     r
 }
@@ -45,7 +43,7 @@ pub(crate) fn note_error_emits<'a>(
 pub(crate) fn note_on_error<'a>(
     doc: &'a [u8],
     at: usize,
-    found: Found,
+    found: Option<usize>,
     outputs: &'a [usize],
     names: &'a [usize],
     enums: &'a [usize],

@@ -5,9 +5,10 @@ ghost use Rattle.typing.specs.Table.{find_first};
 ghost use Rattle.typing.specs.Lanes.{Laned};
 ghost use Rattle.findings.specs.Touch.{TouchesAll, Numbered, GathersName, Gathered, own_mark, HandedOn};
 
+use crate::lanes::Variables;
 use crate::mentions::touch_all;
 use reading::text_at;
-use typing::{Found, lane_add, lane_find};
+use typing::{lane_add, lane_find};
 
 // Puts the name at a place after the first m, with its number, where it is none of them; how many there are then.
 fn gather_name(
@@ -24,7 +25,7 @@ fn gather_name(
     ensures upper_bound { result ≤ m + 1 }
 {
     let f = lane_find(doc, once, m, heads, links, text_at(doc, at));
-    let Found::Nothing = f else {
+    let None = f else {
         return m;
     };
     once[2 * m] = at;
@@ -48,10 +49,8 @@ fn gather(
 {
     let many = names.len() / 2;
     let mut m: usize = 0;
-    let mut k: usize = 0;
-    while k < many {
+    for k in 0..many {
         m = gather_name(doc, names[2 * k], once, m, heads, links);
-        k += 1;
     }
     m
 }
@@ -72,8 +71,8 @@ fn is_marked<'a>(
 {
     let f = lane_find(doc, once, m, heads, links, text_at(doc, at));
     match f {
-        Found::At(j) => own[j] == 1,
-        Found::Nothing => false,
+        Some(j) => own[j] == 1,
+        None => false,
     }
 }
 
@@ -93,15 +92,13 @@ fn hand_on<'a>(
     ensures { HandedOn doc.now names.now (length names.now / 2) once.now m own.now marks.old marks.new }
 {
     let many = names.len() / 2;
-    let mut k: usize = 0;
-    while k < many {
+    for k in 0..many {
         if marks.len() <= k {
             return;
         }
         if is_marked(doc, names[2 * k], once, m, heads, links, own) {
             marks[k] = 1;
         }
-        k += 1;
     }
 }
 
@@ -123,15 +120,12 @@ pub(crate) fn touch_once<'a>(
     let mut own = [0u8; 256];
     let m = gather(doc, names, &mut once, &mut heads, &mut links);
     let end = 2 * m;
-    touch_all(
+    let vars = Variables {
         doc,
-        places,
-        rows,
-        count,
-        &once[0..end],
-        &heads,
-        &links,
-        &mut own,
-    );
+        names: &once[0..end],
+        heads: &heads,
+        links: &links,
+    };
+    touch_all(&vars, places, rows, count, &mut own);
     hand_on(doc, names, &once, m, &heads, &links, &own, marks);
 }

@@ -5,13 +5,13 @@ ghost use Rattle.findings.specs.Promises.{InitAt, NotesInitial, NotesVersion, No
 use crate::cause::note_typed;
 use crate::sheet::emit_if;
 use crate::states::{no_states, note_state};
-use reading::{Answer, Cursor, text_at};
-use typing::{Found, after, after_expr, after_head, is_valid_version_format, null_at, word};
+use reading::{Cursor, text_at};
+use typing::{after, after_expr, after_head, is_valid_version_format, null_at, word};
 
 // The initial state at a place; it may be absent where nothing moves.
 pub(crate) fn note_initial(
     doc: &[u8],
-    found: Found,
+    found: Option<usize>,
     at: usize,
     moves: bool,
     out: &mut [u32],
@@ -75,17 +75,15 @@ pub(crate) fn note_inits<'a>(
 {
     let c = Cursor { at };
     let a = c.count(doc, 255);
-    let Answer::Got(count, first) = a else {
+    let Ok((count, first)) = a else {
         return n;
     };
     let mut k = first.at;
     let mut r = n;
-    let mut i: u64 = 0;
-    while i < count {
+    for i in 0..count {
         let init = init_at(doc, k);
         r = note_typed(doc, init, names, enums, out, skip, r, owner, 5, i as u32, 0);
         k = after_expr(doc, init, 32);
-        i += 1;
     }
     r
 }
@@ -94,7 +92,7 @@ pub(crate) fn note_inits<'a>(
 pub(crate) fn note_opening<'a>(
     doc: &'a [u8],
     places: &'a [usize],
-    found: Found,
+    found: Option<usize>,
     moves: bool,
     names: &'a [usize],
     enums: &'a [usize],

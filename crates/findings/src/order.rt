@@ -1,5 +1,5 @@
 // States in byte order: the least that is not done yet, and the marks of those that are.
-ghost use Rattle.std.specs.Prelude.{◌≡◌, ◌<◌, ◌≤◌, length};
+ghost use Rattle.std.specs.Prelude.{◌≡◌, ◌<◌, ◌≤◌, length, IfSome, MatchOption};
 ghost use Rattle.reading.specs.Skip.{text_at};
 ghost use Rattle.findings.specs.Order.{earlier};
 ghost use Rattle.findings.specs.Scene.{field};
@@ -13,17 +13,7 @@ use reading::text_at;
 fn earlier<'a>(a: &'a [u8], b: &'a [u8]) -> bool
     ensures { result ≡ earlier a.now b.now }
 {
-    let mut i: usize = 0;
-    while i < a.len() {
-        if b.len() <= i {
-            return false;
-        }
-        if a[i] != b[i] {
-            return a[i] < b[i];
-        }
-        i += 1;
-    }
-    i < b.len()
+    a < b
 }
 
 // Whether the state of transition i comes before that of transition b.
@@ -42,52 +32,43 @@ fn better(doc: &[u8], rows: &[usize], done: &[u8; 256], count: u8, b: u8, i: u8)
     if done[i as usize] != 0 {
         return b;
     }
-    if count <= b {
-        return i;
-    }
-    if earlier_state(doc, rows, i, b) {
+    if count <= b || earlier_state(doc, rows, i, b) {
         return i;
     }
     b
 }
 
-// The place of the least state that is not done; the count where all are.
-pub(crate) fn next_state(doc: &[u8], rows: &[usize], done: &[u8; 256], count: u8) -> u8
-    ensures { NextState doc.now rows.now count done.now result }
+// The place of the least state that is not done; none where all are.
+pub(crate) fn next_state(doc: &[u8], rows: &[usize], done: &[u8; 256], count: u8) -> Option<u8>
+    ensures next_state { MatchOption result (NextState doc.now rows.now count done.now count) (NextState doc.now rows.now count done.now) }
+    ensures in_range { IfSome result (λ b. b < count) }
 {
     let mut b = count;
-    let mut i: u8 = 0;
-    while i < count {
+    for i in 0..count {
         b = better(doc, rows, done, count, b, i);
-        i += 1;
     }
-    b
+    if b < count { Some(b) } else { None }
 }
 
 // Marks the transitions of the state of transition b.
 pub(crate) fn mark_state(
     doc: &[u8],
     rows: &[usize],
-    prints: &[u32],
+    prints: &[u32; 768],
     count: u8,
     b: u8,
     before: [u8; 256],
 ) -> [u8; 256]
-    requires { 768 ≤ length prints.now }
     ensures { StateMarked doc.now rows.now count before prints.now b result }
 {
     let at = 3 * (b as usize);
     let key = prints[at];
     let mut done = before;
-    let mut j: u8 = 0;
-    while j < count {
+    for j in 0..count {
         let k = 3 * (j as usize);
-        if prints[k] == key {
-            if same_fields(doc, rows, b, 1, j, 1) {
-                done[j as usize] = 1;
-            }
+        if prints[k] == key && same_fields(doc, rows, b, 1, j, 1) {
+            done[j as usize] = 1;
         }
-        j += 1;
     }
     done
 }

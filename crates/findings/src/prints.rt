@@ -8,6 +8,7 @@ ghost use Rattle.findings.specs.Scene.{field};
 ghost use Rattle.findings.specs.Prints.{print_at};
 ghost use Rattle.findings.specs.Parts.{PrintPart, KeyPrint, PrintedRow};
 ghost use Rattle.findings.specs.PairPromises.{Printed};
+ghost use Rattle.findings.specs.Classes.{Tabled};
 
 use crate::priority::rank;
 use crate::rows::field;
@@ -18,17 +19,7 @@ use typing::print_bytes;
 pub(crate) fn part(doc: &[u8], from: usize, to: usize) -> &[u8]
     ensures { result.now ≡ span doc.now from to }
 {
-    if to <= from {
-        return &doc[0..0];
-    }
-    let len = doc.len();
-    if len <= from {
-        return &doc[0..0];
-    }
-    if len < to {
-        return &doc[from..len];
-    }
-    &doc[from..to]
+    doc.get(from..to.min(doc.len())).unwrap_or(&[])
 }
 
 // The print of a part of the document after h.
@@ -53,19 +44,15 @@ fn print_pattern(doc: &[u8], rows: &[usize], i: u8, h: u32) -> u32
 }
 
 // Word f of the prints of transition i; 0 past the end.
-pub(crate) fn print_word(prints: &[u32], i: u8, f: u8) -> u32
+pub(crate) fn print_word(prints: &[u32; 768], i: u8, f: u8) -> u32
     ensures { result ≡ print_at prints.now i f }
 {
     let at = 3 * (i as usize) + f as usize;
-    if at < prints.len() {
-        return prints[at];
-    }
-    0
+    prints.get(at).copied().unwrap_or(0)
 }
 
 // Puts the three words of transition i.
-fn write_print(prints: &mut [u32], i: u8, state: u32, next: u32, key: u32)
-    requires { 768 ≤ length prints.old }
+fn write_print(prints: &mut [u32; 768], i: u8, state: u32, next: u32, key: u32)
     ensures { prints.new ≡ sets prints.old (3 * i) (state ∷ next ∷ key ∷ []) }
 {
     let at = 3 * (i as usize);
@@ -83,8 +70,7 @@ fn key_of(doc: &[u8], rows: &[usize], i: u8, state: u32) -> u32
 }
 
 // The prints of transition i: of its state, of the state it leads to, and its key.
-fn fill_print(doc: &[u8], rows: &[usize], i: u8, prints: &mut [u32])
-    requires { 768 ≤ length prints.old }
+fn fill_print(doc: &[u8], rows: &[usize], i: u8, prints: &mut [u32; 768])
     ensures { PrintedRow doc.now rows.now i prints.old prints.new }
 {
     let state = print_name(doc, rows, i, 1);
@@ -93,14 +79,23 @@ fn fill_print(doc: &[u8], rows: &[usize], i: u8, prints: &mut [u32])
     write_print(prints, i, state, next, key);
 }
 
+// A table of what a function gives at each place below the count.
+pub(crate) fn tabulate<F: Fn(u8) -> u32>(count: u8, of: F) -> [u32; 256]
+    requires { F.IsAlwaysCallable of }
+    ensures { Tabled (F.post of) count result }
+{
+    let mut table: [u32; 256] = [0; 256];
+    for i in 0..count {
+        table[i as usize] = of(i);
+    }
+    table
+}
+
 // The prints of each transition.
-pub(crate) fn fill_prints(doc: &[u8], rows: &[usize], count: u8, prints: &mut [u32])
-    requires { 768 ≤ length prints.old }
+pub(crate) fn fill_prints(doc: &[u8], rows: &[usize], count: u8, prints: &mut [u32; 768])
     ensures { Printed doc.now rows.now count prints.new }
 {
-    let mut i: u8 = 0;
-    while i < count {
+    for i in 0..count {
         fill_print(doc, rows, i, prints);
-        i += 1;
     }
 }

@@ -2,7 +2,7 @@
 ghost use Rattle.findings.specs.Parts.{Ranked};
 ghost use Rattle.findings.specs.PairSteps.{PriorityAt, SamePriority};
 
-use reading::{Answer, Cursor};
+use reading::Cursor;
 use typing::null_at;
 
 // The number at a place; 0 where none stands there.
@@ -11,7 +11,7 @@ fn priority_at(doc: &[u8], at: usize) -> u64
 {
     let c = Cursor { at };
     let a = c.number(doc, 4294967295);
-    let Answer::Got(v, _) = a else {
+    let Ok((v, _)) = a else {
         return 0;
     };
     v
@@ -36,8 +36,5 @@ pub(crate) fn same_priority(doc: &[u8], p: usize, q: usize) -> bool
     if null_at(doc, p) {
         return null_at(doc, q);
     }
-    if null_at(doc, q) {
-        return false;
-    }
-    priority_at(doc, p) == priority_at(doc, q)
+    !null_at(doc, q) && priority_at(doc, p) == priority_at(doc, q)
 }

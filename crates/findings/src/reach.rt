@@ -7,55 +7,45 @@ use crate::rows::field;
 use crate::sheet::emit_if;
 use crate::touch::is_free;
 use crate::walk::walk;
-use reading::{Answer, Cursor, text_at};
-use typing::{Found, after, null_at, print_bytes, same_name};
+use reading::{Cursor, text_at};
+use typing::{after, null_at, print_bytes, same_name};
 
 // Whether transition i is taken and leads to the name at key, which has the print.
 fn is_hit<'a>(
     doc: &'a [u8],
     rows: &'a [usize],
-    prints: &'a [u32],
-    marks: &'a [u8],
+    prints: &'a [u32; 768],
+    marks: &'a [u8; 256],
     key: usize,
     print: u32,
     i: u8,
 ) -> bool
-    requires { 768 ≤ length prints.now }
     ensures { IsHit doc.now rows.now prints.now marks.now key print i result }
 {
     let at = 3 * (i as usize) + 1;
-    if prints[at] != print {
-        return false;
-    }
-    if is_free(marks, i) {
-        return false;
-    }
-    same_name(doc, field(rows, i, 4), key)
+    prints[at] == print && !is_free(marks, i) && same_name(doc, field(rows, i, 4), key)
 }
 
 // Whether the name at key is the first, which stands at a place, or what is taken leads to it.
 pub(crate) fn is_led<'a>(
     doc: &'a [u8],
     rows: &'a [usize],
-    prints: &'a [u32],
-    marks: &'a [u8],
+    prints: &'a [u32; 768],
+    marks: &'a [u8; 256],
     count: u8,
     at: usize,
     key: usize,
 ) -> bool
-    requires { 768 ≤ length prints.now }
     ensures { IsLed doc.now rows.now prints.now marks.now count at key result }
 {
     if same_name(doc, at, key) {
         return true;
     }
     let print = print_bytes(text_at(doc, key), 0);
-    let mut i: u8 = 0;
-    while i < count {
+    for i in 0..count {
         if is_hit(doc, rows, prints, marks, key, print, i) {
             return true;
         }
-        i += 1;
     }
     false
 }
@@ -64,8 +54,8 @@ pub(crate) fn is_led<'a>(
 pub(crate) fn note_unled<'a>(
     doc: &'a [u8],
     rows: &'a [usize],
-    prints: &'a [u32],
-    marks: &'a [u8],
+    prints: &'a [u32; 768],
+    marks: &'a [u8; 256],
     count: u8,
     at: usize,
     key: usize,
@@ -75,8 +65,7 @@ pub(crate) fn note_unled<'a>(
     n: usize,
     owner: u32,
 ) -> usize
-    requires in_bounds { 768 ≤ length prints.now }
-    requires n_bound { n < 2 ^ 40 }
+    requires { n < 2 ^ 40 }
     ensures notes_unled { NotesUnled doc.now owner out.old skip n result out.new rows.now prints.now count marks.now at key j }
     ensures upper_bound { result ≤ n + 1 }
 {
@@ -88,8 +77,8 @@ pub(crate) fn note_unled<'a>(
 pub(crate) fn note_unled_at<'a>(
     doc: &'a [u8],
     rows: &'a [usize],
-    prints: &'a [u32],
-    marks: &'a [u8],
+    prints: &'a [u32; 768],
+    marks: &'a [u8; 256],
     count: u8,
     at: usize,
     list: usize,
@@ -98,25 +87,22 @@ pub(crate) fn note_unled_at<'a>(
     n: usize,
     owner: u32,
 ) -> usize
-    requires in_bounds { 768 ≤ length prints.now }
-    requires n_bound { n + 255 ≤ 2 ^ 40 }
+    requires { n + 255 ≤ 2 ^ 40 }
     ensures notes_unled_at { NotesUnledAt doc.now owner out.old skip n result out.new rows.now prints.now count marks.now at list }
     ensures upper_bound { result ≤ n + 255 }
 {
     let c = Cursor { at: list };
     let a = c.count(doc, 255);
-    let Answer::Got(many, first) = a else {
+    let Ok((many, first)) = a else {
         return n;
     };
     let mut k = first.at;
     let mut m = n;
-    let mut j: u64 = 0;
-    while j < many {
+    for j in 0..many {
         m = note_unled(
             doc, rows, prints, marks, count, at, k, j as u32, out, skip, m, owner,
         );
         k = after(doc, k);
-        j += 1;
     }
     m
 }
@@ -125,22 +111,21 @@ pub(crate) fn note_unled_at<'a>(
 pub(crate) fn note_unled_states<'a>(
     doc: &'a [u8],
     rows: &'a [usize],
-    prints: &'a [u32],
-    marks: &'a [u8],
+    prints: &'a [u32; 768],
+    marks: &'a [u8; 256],
     count: u8,
     at: usize,
-    found: Found,
+    found: Option<usize>,
     out: &mut [u32],
     skip: usize,
     n: usize,
     owner: u32,
 ) -> usize
-    requires in_bounds { 768 ≤ length prints.now }
-    requires n_bound { n + 255 ≤ 2 ^ 40 }
+    requires { n + 255 ≤ 2 ^ 40 }
     ensures notes_unled_states { NotesUnledStates doc.now owner out.old skip n result out.new rows.now prints.now count marks.now at found }
     ensures upper_bound { result ≤ n + 255 }
 {
-    let Found::At(list) = found else {
+    let Some(list) = found else {
         return n;
     };
     note_unled_at(
@@ -152,17 +137,16 @@ pub(crate) fn note_unled_states<'a>(
 pub(crate) fn note_unreachable<'a>(
     doc: &'a [u8],
     rows: &'a [usize],
-    prints: &'a [u32],
+    prints: &'a [u32; 768],
     count: u8,
-    found: Found,
+    found: Option<usize>,
     at: usize,
     out: &mut [u32],
     skip: usize,
     n: usize,
     owner: u32,
 ) -> usize
-    requires in_bounds { 768 ≤ length prints.now }
-    requires n_bound { n + 255 ≤ 2 ^ 40 }
+    requires { n + 255 ≤ 2 ^ 40 }
     ensures notes_unreachable { NotesUnreachable doc.now owner out.old skip n result out.new rows.now count prints.now found at }
     ensures upper_bound { result ≤ n + 255 }
 {

@@ -1,31 +1,24 @@
 // Tables of places: the fields of a record, and of each transition of a list.
-ghost use Rattle.std.specs.Prelude.{◌≡◌, [], ◌∷◌, ◌<◌, ◌≤◌, length, get_or, take, drop};
+ghost use Rattle.std.specs.Prelude.{◌≡◌, [], ◌∷◌, ◌<◌, ◌≤◌, length, get_or, take, drop, IfSome};
 ghost use Rattle.std.proofs.lemmas.List.Edits.{sets};
 ghost use Rattle.findings.specs.Scene.{row_from, end_from, row_at, row_end, field, groups_in, events_in, outputs_in, PastBare, RowsFilled};
 ghost use Rattle.typing.specs.Table.{Past};
 
-use reading::{Answer, Cursor};
+use reading::Cursor;
 use typing::{after, after_head, store, word};
 
 // At most so many words of a table, from its start on.
 fn front(table: &[usize], words: usize) -> &[usize]
     ensures { result.now ≡ take words table.now }
 {
-    if table.len() <= words {
-        return table;
-    }
-    &table[0..words]
+    &table[..words.min(table.len())]
 }
 
 // The words of a table from one on.
 fn back(table: &[usize], from: usize) -> &[usize]
     ensures { result.now ≡ drop from table.now }
 {
-    let end = table.len();
-    if end <= from {
-        return &table[end..end];
-    }
-    &table[from..end]
+    &table[from.min(table.len())..]
 }
 
 // The table of groups that takes so many of the words from one on, and at most 510.
@@ -66,12 +59,10 @@ pub(crate) fn fill_row(doc: &[u8], at: usize, fields: u8, table: &mut [usize], j
     ensures table_after { table.new ≡ sets table.old j (row_at fields doc.now at) }
 {
     let mut k = after_head(doc, at);
-    let mut f: u8 = 0;
-    while f < fields {
+    for f in 0..fields {
         let w = j + f as usize;
         store(table, w, k);
         k = after(doc, k);
-        f += 1;
     }
     k
 }
@@ -80,53 +71,39 @@ pub(crate) fn fill_row(doc: &[u8], at: usize, fields: u8, table: &mut [usize], j
 fn after_number(doc: &[u8], at: usize) -> usize
     ensures { Past doc.now at result }
 {
-    if at < doc.len() {
-        if 1 < doc.len() - at {
-            if doc[at] == 24 {
-                if 23 < doc[at + 1] {
-                    return at + 2;
-                }
-            }
-        }
+    if at < doc.len() && 1 < doc.len() - at && doc[at] == 24 && 23 < doc[at + 1] {
+        return at + 2;
     }
     after(doc, at)
 }
 
-// The place after the pattern whose group's short name stands at a place; 0 where it has a variant.
-fn after_bare(doc: &[u8], name: usize) -> usize
+// The place after the pattern whose group's short name stands at a place; none where it has a variant.
+fn after_bare(doc: &[u8], name: usize) -> Option<usize>
     requires { name < length doc.now }
-    ensures { PastBare doc.now name result }
+    ensures { IfSome result (PastBare doc.now name) }
 {
     let b = doc[name];
-    if b < 97 {
-        return 0;
-    }
-    if 119 < b {
-        return 0;
+    if b < 97 || 119 < b {
+        return None;
     }
     let n = (b - 96) as usize;
     if doc.len() - name <= n + 1 {
-        return 0;
+        return None;
     }
     let end = name + 1 + n;
     if doc[end] != 246 {
-        return 0;
+        return None;
     }
-    end + 1
+    Some(end + 1)
 }
 
 // The place after the pattern at a place: one without variant, by its bytes.
 fn after_pattern(doc: &[u8], at: usize) -> usize
     ensures { Past doc.now at result }
 {
-    if at < doc.len() {
-        if 1 < doc.len() - at {
-            if doc[at] == 130 {
-                let end = after_bare(doc, at + 1);
-                if 0 < end {
-                    return end;
-                }
-            }
+    if at < doc.len() && 1 < doc.len() - at && doc[at] == 130 {
+        if let Some(end) = after_bare(doc, at + 1) {
+            return end;
         }
     }
     after(doc, at)
@@ -193,16 +170,12 @@ pub(crate) fn fill_rows(doc: &[u8], at: usize, table: &mut [usize]) -> Listed
 {
     let c = Cursor { at };
     let a = c.count(doc, 255);
-    let Answer::Got(count, first) = a else {
+    let Ok((count, first)) = a else {
         return Listed { count: 0, end: at };
     };
     let mut k = first.at;
-    let mut j: usize = 0;
-    let mut left = count;
-    while 0 < left {
-        k = fill_move(doc, k, table, j);
-        j += 8;
-        left -= 1;
+    for i in 0..count as usize {
+        k = fill_move(doc, k, table, 8 * i);
     }
     Listed {
         count: count as u8,

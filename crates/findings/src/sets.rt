@@ -5,14 +5,14 @@ ghost use Rattle.findings.specs.Sets.{NotesFound};
 
 use crate::cause::note_typed;
 use crate::sheet::emit;
-use reading::{Answer, Cursor, text_at};
-use typing::{Found, after, after_head, find};
+use reading::{Cursor, text_at};
+use typing::{after, after_head, find};
 
 // Sites 11 and 12, of assignment j of transition i, by what was found under its name: the value of an unknown variable has no type.
 fn note_found<'a>(
     doc: &'a [u8],
     var: usize,
-    f: Found,
+    f: Option<usize>,
     i: u8,
     j: u8,
     names: &'a [usize],
@@ -28,7 +28,7 @@ fn note_found<'a>(
 {
     let first = i as u32;
     let second = j as u32;
-    let Found::At(_) = f else {
+    let Some(_) = f else {
         return emit(out, skip, n, owner, 11, first, second, 0);
     };
     let value = after(doc, var);
@@ -79,17 +79,15 @@ pub(crate) fn note_sets<'a>(
 {
     let c = Cursor { at };
     let a = c.count(doc, 255);
-    let Answer::Got(count, first) = a else {
+    let Ok((count, first)) = a else {
         return n;
     };
     let many = count as u8;
     let mut k = first.at;
-    let mut j: u8 = 0;
     let mut next = n;
-    while j < many {
+    for j in 0..many {
         next = note_set(doc, k, i, j, vars, names, enums, out, skip, next, owner);
         k = after(doc, k);
-        j += 1;
     }
     next
 }

@@ -1,4 +1,5 @@
-// Writing findings into lent words.
+// Writing findings into lent words. The words, the numbers skip and n and the owner stay parameters: `Noted` tells them one by one, with
+// the words before and after.
 ghost use Rattle.std.specs.Prelude.{◌≡◌, [], ◌∷◌, ◌+◌, ◌*◌, ◌<◌, ◌≤◌, ◌^◌, length};
 ghost use Rattle.std.proofs.lemmas.List.Edits.{sets};
 ghost use Rattle.findings.specs.Finding.{note, in_module, words, noted};
@@ -38,14 +39,9 @@ pub(crate) fn emit(
     requires { n < 2 ^ 40 }
     ensures { Noted owner out.old skip n (note site first second cause ∷ []) result out.new }
 {
-    if n < skip {
-        return n + 1;
+    if skip <= n && n - skip < out.len() / 5 {
+        write_words(out, (n - skip) * 5, owner, site, first, second, cause);
     }
-    let at = n - skip;
-    if out.len() / 5 <= at {
-        return n + 1;
-    }
-    write_words(out, at * 5, owner, site, first, second, cause);
     n + 1
 }
 

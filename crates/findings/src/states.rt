@@ -3,50 +3,50 @@ ghost use Rattle.std.specs.Prelude.{◌+◌, ◌≤◌, ◌^◌};
 ghost use Rattle.findings.specs.Promises.{FirstStates, IsState, NoStates, NotesState};
 
 use crate::sheet::emit_if;
-use reading::{Answer, Cursor, text_at};
-use typing::{Found, after, after_head, first_enum, has_name};
+use reading::{Cursor, text_at};
+use typing::{after, after_head, first_enum, has_name};
 
 // The place of their list, by the list of enums at a place.
-pub(crate) fn first_states(doc: &[u8], at: usize) -> Found
+pub(crate) fn first_states(doc: &[u8], at: usize) -> Option<usize>
     ensures { FirstStates doc.now at result }
 {
     let f = first_enum(doc, at, b"State");
-    let Found::At(k) = f else {
-        return Found::Nothing;
+    let Some(k) = f else {
+        return None;
     };
     let name = after_head(doc, k);
-    Found::At(after(doc, name))
+    Some(after(doc, name))
 }
 
 // Whether the name at a place is one of them.
-pub(crate) fn is_state(doc: &[u8], found: Found, at: usize) -> bool
+pub(crate) fn is_state(doc: &[u8], found: Option<usize>, at: usize) -> bool
     ensures { IsState doc.now found at result }
 {
     match found {
-        Found::At(k) => has_name(doc, k, text_at(doc, at)),
-        Found::Nothing => false,
+        Some(k) => has_name(doc, k, text_at(doc, at)),
+        None => false,
     }
 }
 
 // Whether there are none.
-pub(crate) fn no_states(doc: &[u8], found: Found) -> bool
+pub(crate) fn no_states(doc: &[u8], found: Option<usize>) -> bool
     ensures { NoStates doc.now found result }
 {
-    let Found::At(k) = found else {
+    let Some(k) = found else {
         return true;
     };
     let c = Cursor { at: k };
     let a = c.count(doc, 255);
     match a {
-        Answer::Got(count, _) => count == 0,
-        Answer::Refused(_, _) => true,
+        Ok((count, _)) => count == 0,
+        Err(_) => true,
     }
 }
 
 // The name at a place, where it is none of them.
 pub(crate) fn note_state(
     doc: &[u8],
-    found: Found,
+    found: Option<usize>,
     at: usize,
     out: &mut [u32],
     skip: usize,

@@ -11,7 +11,7 @@ use crate::rows::{events_of, field, outputs_of};
 use crate::sets::note_sets;
 use crate::sheet::emit_cause;
 use crate::variants::{fill_states, note_variant};
-use typing::{Bindings, Blame, Found, blame_number, validate_event_pattern, weave};
+use typing::{Bindings, Blame, blame_number, validate_event_pattern, weave};
 
 // Sites 9 to 13, of transition i: its guard, its assignments, then its outputs.
 pub(crate) fn note_body<'a>(
@@ -43,7 +43,7 @@ pub(crate) fn note_body<'a>(
 fn note_heads<'a>(
     doc: &'a [u8],
     rows: &'a [usize],
-    prints: &'a [u32],
+    prints: &'a [u32; 768],
     i: u8,
     variants: &'a [usize],
     hints: &'a [u8; 256],
@@ -75,7 +75,7 @@ fn note_judged<'a>(
     doc: &'a [u8],
     places: &'a [usize],
     rows: &'a [usize],
-    prints: &'a [u32],
+    prints: &'a [u32; 768],
     i: u8,
     variants: &'a [usize],
     hints: &'a [u8; 256],
@@ -120,7 +120,7 @@ fn bind_pattern<'a>(
 // What is wrong with a pattern, and how many words of a table are the names with those that it binds.
 #[derive(Clone, Copy)]
 pub struct Judged {
-    pub blame: Blame,
+    pub blame: Result<(), Blame>,
     pub names: usize,
 }
 
@@ -153,22 +153,20 @@ pub(crate) fn note_transition<'a>(
     doc: &'a [u8],
     places: &'a [usize],
     rows: &'a [usize],
-    prints: &'a [u32],
+    prints: &'a [u32; 768],
     i: u8,
     variants: &'a [usize],
     hints: &'a [u8; 256],
-    table: &mut [usize],
+    table: &mut [usize; 1658],
     enums: &'a [usize],
     out: &mut [u32],
     skip: usize,
     n: usize,
     owner: u32,
 ) -> usize
-    requires n_bound { n + 514 ≤ 2 ^ 40 }
-    requires in_bounds { 1658 ≤ length table.old }
+    requires { n + 514 ≤ 2 ^ 40 }
     ensures notes_transition { NotesTransition doc.now owner out.old skip n result out.new places.now rows.now prints.now i variants.now table.old 829 enums.now }
     ensures upper_bound { result ≤ n + 514 }
-    ensures table_len_unchanged { length table.new ≡ length table.old }
     ensures table_unchanged { take 829 table.new ≡ take 829 table.old }
 {
     let p = judge_pattern(doc, places, rows, i, table);
@@ -186,31 +184,27 @@ fn note_transitions<'a>(
     doc: &'a [u8],
     places: &'a [usize],
     rows: &'a [usize],
-    prints: &'a [u32],
+    prints: &'a [u32; 768],
     count: u8,
     variants: &'a [usize],
     hints: &'a [u8; 256],
-    table: &mut [usize],
+    table: &mut [usize; 1658],
     enums: &'a [usize],
     out: &mut [u32],
     skip: usize,
     n: usize,
     owner: u32,
 ) -> usize
-    requires n_bound { n + 131070 ≤ 2 ^ 40 }
-    requires in_bounds { 1658 ≤ length table.old }
+    requires { n + 131070 ≤ 2 ^ 40 }
     ensures notes_transitions { NotesTransitions doc.now owner out.old skip n result out.new places.now rows.now prints.now count variants.now table.old 829 enums.now }
     ensures upper_bound { result ≤ n + 131070 }
-    ensures table_len_unchanged { length table.new ≡ length table.old }
     ensures table_unchanged { take 829 table.new ≡ take 829 table.old }
 {
-    let mut i: u8 = 0;
     let mut next = n;
-    while i < count {
+    for i in 0..count {
         next = note_transition(
             doc, places, rows, prints, i, variants, hints, table, enums, out, skip, next, owner,
         );
-        i += 1;
     }
     next
 }
@@ -220,21 +214,19 @@ pub(crate) fn note_moves<'a>(
     doc: &'a [u8],
     places: &'a [usize],
     rows: &'a [usize],
-    prints: &'a [u32],
+    prints: &'a [u32; 768],
     count: u8,
-    found: Found,
-    table: &mut [usize],
+    found: Option<usize>,
+    table: &mut [usize; 1658],
     enums: &'a [usize],
     out: &mut [u32],
     skip: usize,
     n: usize,
     owner: u32,
 ) -> usize
-    requires n_bound { n + 131070 ≤ 2 ^ 40 }
-    requires in_bounds { 1658 ≤ length table.old }
+    requires { n + 131070 ≤ 2 ^ 40 }
     ensures notes_moves { NotesMoves doc.now owner out.old skip n result out.new places.now rows.now prints.now count found table.old 829 enums.now }
     ensures upper_bound { result ≤ n + 131070 }
-    ensures table_len_unchanged { length table.new ≡ length table.old }
     ensures table_unchanged { take 829 table.new ≡ take 829 table.old }
 {
     let mut states = [0usize; 510];

@@ -3,7 +3,7 @@ ghost use Rattle.std.specs.Prelude.{◌≡◌, ◌+◌, ◌≤◌, ◌^◌, leng
 ghost use Rattle.findings.specs.Touch.{VarsFilled, TouchesAll, MarksUsed, NotesUnmarked};
 ghost use Rattle.findings.specs.WarningPromises.{NotesUnused};
 
-use crate::lanes::add_all;
+use crate::lanes::{Variables, add_all};
 use crate::mentions::touch_all;
 use crate::once::touch_once;
 use crate::sheet::emit_if;
@@ -24,18 +24,15 @@ pub(crate) fn note_unmarked(
     ensures upper_bound { result ≤ n + 255 }
 {
     let mut m = n;
-    let mut k: u8 = 0;
-    while k < count {
+    for k in 0..count {
         let free = is_free(marks, k);
         m = emit_if(free, out, skip, m, owner, 23, k as u32, 0);
-        k += 1;
     }
     m
 }
 
 // Fills the table of the variables of the list at a place; how many words it takes.
-fn fill_vars(doc: &[u8], at: usize, table: &mut [usize]) -> usize
-    requires { length table.old ≡ 512 }
+fn fill_vars(doc: &[u8], at: usize, table: &mut [usize; 512]) -> usize
     ensures vars_filled { VarsFilled doc.now at result table.new }
     ensures upper_bound { result ≤ 510 }
 {
@@ -59,7 +56,13 @@ fn touch_vars<'a>(
     let mut links = [0u16; 255];
     add_all(doc, names, &mut heads, &mut links);
     if heads[1024] < 7 {
-        touch_all(doc, places, rows, count, names, &heads, &links, marks);
+        let vars = Variables {
+            doc,
+            names,
+            heads: &heads,
+            links: &links,
+        };
+        touch_all(&vars, places, rows, count, marks);
         return;
     }
     touch_once(doc, places, rows, count, names, marks);
@@ -71,11 +74,10 @@ pub(crate) fn mark_used<'a>(
     places: &'a [usize],
     rows: &'a [usize],
     count: u8,
-    table: &mut [usize],
-    marks: &mut [u8],
+    table: &mut [usize; 512],
+    marks: &mut [u8; 256],
 ) -> u8
-    requires table_len { length table.old ≡ 512 }
-    requires marks_value { marks.old ≡ replicate 256 0 }
+    requires { marks.old ≡ replicate 256 0 }
     ensures { MarksUsed doc.now places.now rows.now count result marks.new }
 {
     let at = word(places, 7);

@@ -1,12 +1,13 @@
 // Variants of a group of events that patterns use.
 ghost use Rattle.std.specs.Prelude.{◌≡◌, ◌<◌, ◌≤◌, length};
 ghost use Rattle.findings.specs.Classes.{Tabled};
-ghost use Rattle.findings.specs.Uses.{AddsVariant, AddsUse, GroupPrint, NextMarked, UsesOf, HasVariant, IsUsed};
+ghost use Rattle.findings.specs.Uses.{AddsVariant, AddsUse, GroupPrint, UsesOf, HasVariant, IsUsed};
 
+use crate::prints::tabulate;
 use crate::rows::field;
 use crate::variants::{fill_variant, is_variant};
 use reading::text_at;
-use typing::{Found, after, after_head, after_tag, first_variant, null_at, print_bytes, same};
+use typing::{after, after_head, after_tag, first_variant, null_at, print_bytes, same};
 
 // How many variants the patterns of a group name, and whether one of them names none.
 #[derive(Clone, Copy)]
@@ -19,12 +20,11 @@ pub struct Uses {
 pub(crate) fn add_variant(
     doc: &[u8],
     at: usize,
-    table: &mut [usize],
+    table: &mut [usize; 510],
     hints: &mut [u8; 256],
     u: Uses,
 ) -> Uses
-    requires named_bound { u.named < 255 }
-    requires table_len { length table.old ≡ 510 }
+    requires { u.named < 255 }
     ensures { AddsVariant doc.now at table.old u table.new result }
 {
     let named = u.named;
@@ -44,12 +44,11 @@ pub(crate) fn add_use<'a>(
     doc: &'a [u8],
     at: usize,
     group: &'a [u8],
-    table: &mut [usize],
+    table: &mut [usize; 510],
     hints: &mut [u8; 256],
     u: Uses,
 ) -> Uses
-    requires named_bound { u.named < 255 }
-    requires table_len { length table.old ≡ 510 }
+    requires { u.named < 255 }
     ensures { AddsUse doc.now at group.now table.old u table.new result }
 {
     let name = after_head(doc, at);
@@ -72,29 +71,7 @@ fn print_group(doc: &[u8], rows: &[usize], i: u8) -> u32
 pub(crate) fn print_groups(doc: &[u8], rows: &[usize], count: u8) -> [u32; 256]
     ensures { Tabled (GroupPrint doc.now rows.now) count result }
 {
-    let mut marks: [u32; 256] = [0; 256];
-    let mut i: u8 = 0;
-    while i < count {
-        marks[i as usize] = print_group(doc, rows, i);
-        i += 1;
-    }
-    marks
-}
-
-// The first place from one on where the mark stands; the count where there is none.
-fn next_marked(marks: &[u32; 256], mark: u32, from: u8, count: u8) -> u8
-    requires { from ≤ count }
-    ensures next_marked { NextMarked marks.now mark from result }
-    ensures upper_bound { result ≤ count }
-{
-    let mut i = from;
-    while i < count {
-        if marks[i as usize] == mark {
-            return i;
-        }
-        i += 1;
-    }
-    i
+    tabulate(count, |i| print_group(doc, rows, i))
 }
 
 // The same of all transitions: a pattern is of another group where the prints of their names differ.
@@ -104,11 +81,10 @@ pub(crate) fn fill_uses<'a>(
     marks: &'a [u32; 256],
     count: u8,
     group: &'a [u8],
-    table: &mut [usize],
+    table: &mut [usize; 510],
     hints: &mut [u8; 256],
 ) -> Uses
-    requires tabled { Tabled (GroupPrint doc.now rows.now) count marks.now }
-    requires table_len { length table.old ≡ 510 }
+    requires { Tabled (GroupPrint doc.now rows.now) count marks.now }
     ensures { UsesOf doc.now rows.now count group.now table.new result }
 {
     let mark = print_bytes(group, 0);
@@ -116,32 +92,28 @@ pub(crate) fn fill_uses<'a>(
         named: 0,
         bare: false,
     };
-    let mut i = next_marked(marks, mark, 0, count);
-    while i < count {
-        u = add_use(doc, field(rows, i, 2), group, table, hints, u);
-        i = next_marked(marks, mark, i + 1, count);
+    for i in 0..count {
+        if marks[i as usize] == mark {
+            u = add_use(doc, field(rows, i, 2), group, table, hints, u);
+        }
     }
     u
 }
 
 // Whether the list of variants that was found has one of the name.
-pub(crate) fn has_variant<'a>(doc: &'a [u8], found: Found, name: &'a [u8]) -> bool
+pub(crate) fn has_variant<'a>(doc: &'a [u8], found: Option<usize>, name: &'a [u8]) -> bool
     ensures { HasVariant doc.now found name.now result }
 {
-    let Found::At(at) = found else {
+    let Some(at) = found else {
         return false;
     };
-    let v = first_variant(doc, at, name);
-    match v {
-        Found::At(_) => true,
-        Found::Nothing => false,
-    }
+    first_variant(doc, at, name).is_some()
 }
 
 // Whether patterns use the variant whose name stands at a place: one without variant uses those of the first group, which were found.
 pub(crate) fn is_used<'a>(
     doc: &'a [u8],
-    found: Found,
+    found: Option<usize>,
     names: &'a [usize],
     hints: &'a [u8; 256],
     bare: bool,
@@ -150,11 +122,5 @@ pub(crate) fn is_used<'a>(
     ensures { IsUsed doc.now found names.now bare at result }
 {
     let name = text_at(doc, at);
-    if is_variant(doc, names, hints, at, print_bytes(name, 0)) {
-        return true;
-    }
-    if bare {
-        return has_variant(doc, found, name);
-    }
-    false
+    is_variant(doc, names, hints, at, print_bytes(name, 0)) || bare && has_variant(doc, found, name)
 }

@@ -5,19 +5,18 @@ ghost use Rattle.findings.specs.Variants.{put_variant, StandsAt, Hinted, IsVaria
 ghost use Rattle.findings.specs.Promises.{NotesVariant};
 
 use crate::sheet::emit_if;
-use reading::{Answer, Cursor, text_at};
-use typing::{Found, after, print_bytes, same_name};
+use reading::{Cursor, text_at};
+use typing::{after, print_bytes, same_name};
 
 // Puts the two words of the name at a place, number j of the table, and the hint to it.
 pub(crate) fn fill_variant(
     doc: &[u8],
     at: usize,
     j: u64,
-    variants: &mut [usize],
+    variants: &mut [usize; 510],
     hints: &mut [u8; 256],
 )
-    requires j_bound { j ≤ 254 }
-    requires in_bounds { 510 ≤ length variants.old }
+    requires { j ≤ 254 }
     ensures { variants.new ≡ put_variant doc.now at j variants.old }
 {
     let p = print_bytes(text_at(doc, at), 0);
@@ -29,22 +28,19 @@ pub(crate) fn fill_variant(
 }
 
 // Fills the table of the names of the list at a place; how many words it takes.
-fn fill_variants(doc: &[u8], at: usize, variants: &mut [usize], hints: &mut [u8; 256]) -> usize
-    requires { 510 ≤ length variants.old }
+fn fill_variants(doc: &[u8], at: usize, variants: &mut [usize; 510], hints: &mut [u8; 256]) -> usize
     ensures names_filled { NamesFilled doc.now at result variants.new }
     ensures upper_bound { result ≤ 510 }
 {
     let c = Cursor { at };
     let a = c.count(doc, 255);
-    let Answer::Got(many, first) = a else {
+    let Ok((many, first)) = a else {
         return 0;
     };
     let mut k = first.at;
-    let mut j: u64 = 0;
-    while j < many {
+    for j in 0..many {
         fill_variant(doc, k, j, variants, hints);
         k = after(doc, k);
-        j += 1;
     }
     2 * (many as usize)
 }
@@ -52,15 +48,14 @@ fn fill_variants(doc: &[u8], at: usize, variants: &mut [usize], hints: &mut [u8;
 // Fills the table of the State variants; how many words it takes.
 pub(crate) fn fill_states(
     doc: &[u8],
-    found: Found,
-    variants: &mut [usize],
+    found: Option<usize>,
+    variants: &mut [usize; 510],
     hints: &mut [u8; 256],
 ) -> usize
-    requires { 510 ≤ length variants.old }
     ensures states_filled { StatesFilled doc.now found result variants.new }
     ensures upper_bound { result ≤ 510 }
 {
-    let Found::At(at) = found else {
+    let Some(at) = found else {
         return 0;
     };
     fill_variants(doc, at, variants, hints)
@@ -71,10 +66,7 @@ fn stands_at(doc: &[u8], variants: &[usize], at: usize, print: u32, j: usize) ->
     requires { 2 * j + 1 < length variants.now }
     ensures { StandsAt doc.now variants.now at print j result }
 {
-    if variants[2 * j] != print as usize {
-        return false;
-    }
-    same_name(doc, variants[2 * j + 1], at)
+    variants[2 * j] == print as usize && same_name(doc, variants[2 * j + 1], at)
 }
 
 // Whether it is one of them, each by itself.
@@ -82,12 +74,10 @@ fn is_listed(doc: &[u8], variants: &[usize], at: usize, print: u32) -> bool
     ensures { IsVariant doc.now variants.now at print result }
 {
     let many = variants.len() / 2;
-    let mut j: usize = 0;
-    while j < many {
+    for j in 0..many {
         if stands_at(doc, variants, at, print, j) {
             return true;
         }
-        j += 1;
     }
     false
 }
@@ -97,10 +87,7 @@ fn is_hinted(doc: &[u8], variants: &[usize], at: usize, print: u32, hint: u8) ->
     ensures { Hinted doc.now variants.now at print result }
 {
     let j = hint as usize;
-    if j < variants.len() / 2 {
-        return stands_at(doc, variants, at, print, j);
-    }
-    false
+    j < variants.len() / 2 && stands_at(doc, variants, at, print, j)
 }
 
 // Whether it is one of them, the one that is hinted at first.
@@ -114,10 +101,7 @@ pub(crate) fn is_variant(
     ensures { IsVariant doc.now variants.now at print result }
 {
     let hint = hints[(print % 256) as usize];
-    if is_hinted(doc, variants, at, print, hint) {
-        return true;
-    }
-    is_listed(doc, variants, at, print)
+    is_hinted(doc, variants, at, print, hint) || is_listed(doc, variants, at, print)
 }
 
 // The name at a place, which has the print, where it is none of them.

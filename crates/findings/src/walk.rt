@@ -13,7 +13,7 @@ use reading::text_at;
 use typing::{print_bytes, same};
 
 // Takes transition i; the queue's next place.
-fn take(i: u8, marks: &mut [u8], queue: &mut [u8], tail: usize) -> usize
+fn take(i: u8, marks: &mut [u8; 256], queue: &mut [u8; 256], tail: usize) -> usize
     requires i_in_bounds { i < length marks.old }
     requires tail_in_bounds { tail < length queue.old }
     ensures marks_after { marks.new ≡ set marks.old i 1 }
@@ -30,30 +30,22 @@ fn take(i: u8, marks: &mut [u8], queue: &mut [u8], tail: usize) -> usize
 fn start_one<'a>(
     doc: &'a [u8],
     rows: &'a [usize],
-    prints: &'a [u32],
+    prints: &'a [u32; 768],
     count: u8,
     name: &'a [u8],
     code: u32,
     i: u8,
-    marks: &mut [u8],
-    queue: &mut [u8],
+    marks: &mut [u8; 256],
+    queue: &mut [u8; 256],
     tail: usize,
 ) -> usize
     requires queued { Queued count marks.old queue.old tail }
     requires i_lt_count { i < count }
-    requires in_bounds { 768 ≤ length prints.now }
     requires code_value { code ≡ print 0 name.now }
     ensures { Stepped (BeginsAt doc.now rows.now prints.now name.now) i marks.old queue.old tail marks.new queue.new result }
 {
-    let w = 3 * (i as usize);
-    if prints[w] != code {
-        return tail;
-    }
     let at = i as usize;
-    if marks[at] != 0 {
-        return tail;
-    }
-    if same(text_at(doc, field(rows, i, 1)), name) {
+    if prints[3 * at] == code && marks[at] == 0 && same(text_at(doc, field(rows, i, 1)), name) {
         return take(i, marks, queue, tail);
     }
     tail
@@ -63,22 +55,19 @@ fn start_one<'a>(
 pub(crate) fn start_all<'a>(
     doc: &'a [u8],
     rows: &'a [usize],
-    prints: &'a [u32],
+    prints: &'a [u32; 768],
     count: u8,
     name: &'a [u8],
-    marks: &mut [u8],
-    queue: &mut [u8],
+    marks: &mut [u8; 256],
+    queue: &mut [u8; 256],
 ) -> usize
-    requires in_bounds { 768 ≤ length prints.now }
-    requires queued { Queued count marks.old queue.old 0 }
+    requires { Queued count marks.old queue.old 0 }
     ensures { Swept (BeginsAt doc.now rows.now prints.now name.now) count marks.old queue.old 0 count marks.new queue.new result }
 {
     let code = print_bytes(name, 0);
     let mut tail: usize = 0;
-    let mut i: u8 = 0;
-    while i < count {
+    for i in 0..count {
         tail = start_one(doc, rows, prints, count, name, code, i, marks, queue, tail);
-        i += 1;
     }
     tail
 }
@@ -87,23 +76,19 @@ pub(crate) fn start_all<'a>(
 fn step_one<'a>(
     doc: &'a [u8],
     rows: &'a [usize],
-    prints: &'a [u32],
+    prints: &'a [u32; 768],
     count: u8,
     p: u8,
     i: u8,
-    marks: &mut [u8],
-    queue: &mut [u8],
+    marks: &mut [u8; 256],
+    queue: &mut [u8; 256],
     tail: usize,
 ) -> usize
     requires queued { Queued count marks.old queue.old tail }
     requires i_lt_count { i < count }
     ensures { Stepped (LeadsOn doc.now rows.now prints.now count p) i marks.old queue.old tail marks.new queue.new result }
 {
-    let at = i as usize;
-    if marks[at] != 0 {
-        return tail;
-    }
-    if leads_to(doc, rows, prints, p, i) {
+    if marks[i as usize] == 0 && leads_to(doc, rows, prints, p, i) {
         return take(i, marks, queue, tail);
     }
     tail
@@ -113,23 +98,23 @@ fn step_one<'a>(
 fn follow<'a>(
     doc: &'a [u8],
     rows: &'a [usize],
-    prints: &'a [u32],
+    prints: &'a [u32; 768],
     count: u8,
     p: u8,
-    links: &'a [u8],
+    links: &'a [u8; 256],
     from: u8,
-    marks: &mut [u8],
-    queue: &mut [u8],
+    marks: &mut [u8; 256],
+    queue: &mut [u8; 256],
     tail: usize,
 ) -> usize
     requires queued { Queued count marks.old queue.old tail }
-    requires links_len { length links.now ≡ 256 }
     requires links { Links prints.now count links.now }
     requires ahead { Ahead prints.now count marks.old (lead_of prints.now p) from }
     ensures { Swept (LeadsOn doc.now rows.now prints.now count p) count marks.old queue.old tail count marks.new queue.new result }
 {
     let mut t = tail;
     let mut i = from;
+    // A lane is followed by its links, not counted.
     while i < count {
         t = step_one(doc, rows, prints, count, p, i, marks, queue, t);
         let k = i as usize;
@@ -142,19 +127,17 @@ fn follow<'a>(
 fn step_all<'a>(
     doc: &'a [u8],
     rows: &'a [usize],
-    prints: &'a [u32],
+    prints: &'a [u32; 768],
     count: u8,
     p: u8,
-    heads: &mut [u8],
-    links: &'a [u8],
-    marks: &mut [u8],
-    queue: &mut [u8],
+    heads: &mut [u8; 256],
+    links: &'a [u8; 256],
+    marks: &mut [u8; 256],
+    queue: &mut [u8; 256],
     tail: usize,
 ) -> usize
     requires queued { Queued count marks.old queue.old tail }
-    requires links_len { length links.now ≡ 256 }
     requires links { Links prints.now count links.now }
-    requires heads_len { length heads.old ≡ 256 }
     requires heads { Heads prints.now count heads.old marks.old }
     ensures swept { Swept (LeadsOn doc.now rows.now prints.now count p) count marks.old queue.old tail count marks.new queue.new result }
     ensures heads_2 { Heads prints.now count heads.new marks.new }
@@ -170,20 +153,20 @@ fn step_all<'a>(
 pub(crate) fn walk<'a>(
     doc: &'a [u8],
     rows: &'a [usize],
-    prints: &'a [u32],
+    prints: &'a [u32; 768],
     count: u8,
     name: &'a [u8],
-    marks: &mut [u8],
-    queue: &mut [u8],
+    marks: &mut [u8; 256],
+    queue: &mut [u8; 256],
 )
-    requires in_bounds { 768 ≤ length prints.now }
-    requires queued { Queued count marks.old queue.old 0 }
+    requires { Queued count marks.old queue.old 0 }
     ensures { Walked (BeginsAt doc.now rows.now prints.now name.now) (LeadsOn doc.now rows.now prints.now count) count marks.new }
 {
     let mut heads: [u8; 256] = [255; 256];
     let mut links: [u8; 256] = [0; 256];
     link_all(prints, count, &mut heads, &mut links);
     let mut tail = start_all(doc, rows, prints, count, name, marks, queue);
+    // The queue grows while it is read, so no range stands for the loop.
     let mut head: usize = 0;
     while head < tail {
         let p = queue[head];

@@ -8,23 +8,22 @@ use crate::pairs::note_pairs;
 use crate::reach::note_unreachable;
 use crate::rows::events_of;
 use crate::unused::note_unused;
-use typing::{Found, word};
+use typing::word;
 
 // Sites 21 to 23.
 fn note_doubts<'a>(
     doc: &'a [u8],
     places: &'a [usize],
     rows: &'a [usize],
-    prints: &'a [u32],
+    prints: &'a [u32; 768],
     count: u8,
-    found: Found,
+    found: Option<usize>,
     out: &mut [u32],
     skip: usize,
     n: usize,
     owner: u32,
 ) -> usize
-    requires n_bound { n + 65535 ≤ 2 ^ 40 }
-    requires in_bounds { 768 ≤ length prints.now }
+    requires { n + 65535 ≤ 2 ^ 40 }
     ensures notes_doubts { NotesDoubts doc.now owner out.old skip n result out.new places.now found rows.now prints.now count }
     ensures upper_bound { result ≤ n + 65535 }
 {
@@ -41,16 +40,15 @@ pub(crate) fn note_warnings<'a>(
     doc: &'a [u8],
     places: &'a [usize],
     rows: &'a [usize],
-    prints: &'a [u32],
+    prints: &'a [u32; 768],
     count: u8,
-    found: Found,
+    found: Option<usize>,
     out: &mut [u32],
     skip: usize,
     n: usize,
     owner: u32,
 ) -> usize
-    requires n_bound { n + 33228540 ≤ 2 ^ 40 }
-    requires in_bounds { 768 ≤ length prints.now }
+    requires { n + 33228540 ≤ 2 ^ 40 }
     ensures notes_warnings { NotesWarnings doc.now owner out.old skip n result out.new places.now found rows.now prints.now count }
     ensures upper_bound { result ≤ n + 33228540 }
 {

@@ -9,28 +9,22 @@ ghost use Rattle.findings.specs.Walks.{WalksNamed, WalksModule, WalksModules, Wa
 use crate::errors::note_errors;
 use crate::module::{fill_names, open_module};
 use crate::prints::fill_prints;
+use crate::reply::Counts;
 use crate::rows::Listed;
 use crate::states::first_states;
 use crate::warnings::note_warnings;
-use reading::{Answer, Cursor};
-use typing::{Found, after, after_head, outgrows, word};
-
-// The next number of an error and of a warning.
-#[derive(Clone, Copy)]
-pub struct Totals {
-    pub errors: usize,
-    pub warnings: usize,
-}
+use reading::Cursor;
+use typing::{after, after_head, outgrows, word};
 
 // Both walks over a module whose tables are filled.
 fn judge_module<'a>(
     doc: &'a [u8],
     places: &'a [usize],
     rows: &'a [usize],
-    prints: &'a [u32],
+    prints: &'a [u32; 768],
     count: u8,
-    found: Found,
-    table: &mut [usize],
+    found: Option<usize>,
+    table: &mut [usize; 1658],
     enums: &'a [usize],
     claims: &'a [usize],
     out: &mut [u32],
@@ -40,9 +34,7 @@ fn judge_module<'a>(
     leave: usize,
     k: usize,
     owner: u32,
-) -> Totals
-    requires in_bounds { 768 ≤ length prints.now }
-    requires in_bounds_2 { 1658 ≤ length table.old }
+) -> Counts
     requires claims_len_bound { length claims.now ≤ 1020 }
     requires n_bound { n + 33295864 ≤ 2 ^ 40 }
     requires k_bound { k + 33228540 ≤ 2 ^ 40 }
@@ -57,7 +49,7 @@ fn judge_module<'a>(
     let warnings = note_warnings(
         doc, places, rows, prints, count, found, aside, leave, k, owner,
     );
-    Totals { errors, warnings }
+    Counts { errors, warnings }
 }
 
 // The same, where the table of properties and assumptions takes b words.
@@ -65,13 +57,13 @@ fn judge_named<'a>(
     doc: &'a [u8],
     places: &'a [usize],
     rows: &'a [usize],
-    prints: &'a [u32],
+    prints: &'a [u32; 768],
     count: u8,
-    found: Found,
-    table: &mut [usize],
+    found: Option<usize>,
+    table: &mut [usize; 1658],
     b: usize,
     enums: &'a [usize],
-    claims: &'a [usize],
+    claims: &'a [usize; 1020],
     out: &mut [u32],
     skip: usize,
     n: usize,
@@ -79,10 +71,7 @@ fn judge_named<'a>(
     leave: usize,
     k: usize,
     owner: u32,
-) -> Totals
-    requires in_bounds { 768 ≤ length prints.now }
-    requires in_bounds_2 { 1658 ≤ length table.old }
-    requires b_in_bounds { b ≤ length claims.now }
+) -> Counts
     requires b_bound { b ≤ 1020 }
     requires n_bound { n + 33295864 ≤ 2 ^ 40 }
     requires k_bound { k + 33228540 ≤ 2 ^ 40 }
@@ -111,12 +100,10 @@ fn open_printed(
     doc: &[u8],
     at: usize,
     places: &mut [usize],
-    rows: &mut [usize],
-    prints: &mut [u32],
+    rows: &mut [usize; 2040],
+    prints: &mut [u32; 768],
 ) -> Listed
-    requires in_bounds { 1544 ≤ length places.old }
-    requires in_bounds_2 { 2040 ≤ length rows.old }
-    requires in_bounds_3 { 768 ≤ length prints.old }
+    requires { 1544 ≤ length places.old }
     ensures opens { Opens doc.now at result places.new rows.new }
     ensures printed { Printed doc.now rows.new result.count prints.new }
 {
@@ -126,7 +113,7 @@ fn open_printed(
 }
 
 // The first enum called State of a module.
-pub fn states_of<'a>(doc: &'a [u8], places: &'a [usize]) -> Found
+pub fn states_of<'a>(doc: &'a [u8], places: &'a [usize]) -> Option<usize>
     ensures { FirstStates doc.now (get_or places.now 3 0) result }
 {
     let enums = word(places, 3);
@@ -136,7 +123,7 @@ pub fn states_of<'a>(doc: &'a [u8], places: &'a [usize]) -> Found
 // The first enum called State, and how many words the table of properties and assumptions takes.
 #[derive(Clone, Copy)]
 pub struct Ready {
-    pub found: Found,
+    pub found: Option<usize>,
     pub claims: usize,
 }
 
@@ -169,22 +156,18 @@ fn walk_named<'a>(
     owner: u32,
     places: &'a [usize],
     rows: &'a [usize],
-    prints: &'a [u32],
+    prints: &'a [u32; 768],
     count: u8,
-    table: &mut [usize],
-    enums: &mut [usize],
-    claims: &mut [usize],
+    table: &mut [usize; 1658],
+    enums: &mut [usize; 2365],
+    claims: &mut [usize; 1020],
     out: &mut [u32],
     skip: usize,
     n: usize,
     aside: &mut [u32],
     leave: usize,
     k: usize,
-) -> Totals
-    requires in_bounds { 768 ≤ length prints.now }
-    requires in_bounds_2 { 1658 ≤ length table.old }
-    requires in_bounds_3 { 829 ≤ length enums.old }
-    requires claims_len { length claims.old ≡ 1020 }
+) -> Counts
     requires n_bound { n + 33295864 ≤ 2 ^ 40 }
     requires k_bound { k + 33228540 ≤ 2 ^ 40 }
     ensures walks_named { WalksNamed doc.now out.old skip n result.errors out.new aside.old leave k result.warnings aside.new owner places.now rows.now prints.now count }
@@ -222,10 +205,10 @@ fn walk_opened<'a>(
     owner: u32,
     places: &'a [usize],
     rows: &'a [usize],
-    prints: &'a [u32],
-    table: &mut [usize],
-    enums: &mut [usize],
-    claims: &mut [usize],
+    prints: &'a [u32; 768],
+    table: &mut [usize; 1658],
+    enums: &mut [usize; 2365],
+    claims: &mut [usize; 1020],
     out: &mut [u32],
     skip: usize,
     n: usize,
@@ -235,10 +218,6 @@ fn walk_opened<'a>(
 ) -> Passed
     requires opens { Opens doc.now at listed places.now rows.now }
     requires printed { Printed doc.now rows.now listed.count prints.now }
-    requires in_bounds { 768 ≤ length prints.now }
-    requires in_bounds_2 { 1658 ≤ length table.old }
-    requires in_bounds_3 { 829 ≤ length enums.old }
-    requires claims_len { length claims.old ≡ 1020 }
     requires n_bound { n + 33295864 ≤ 2 ^ 40 }
     requires k_bound { k + 33228540 ≤ 2 ^ 40 }
     ensures walks_module { WalksModule doc.now out.old skip n result.errors out.new aside.old leave k result.warnings aside.new owner at result.end }
@@ -274,11 +253,11 @@ fn walk_wide(
     doc: &[u8],
     at: usize,
     owner: u32,
-    rows: &mut [usize],
-    prints: &mut [u32],
-    table: &mut [usize],
-    enums: &mut [usize],
-    claims: &mut [usize],
+    rows: &mut [usize; 2040],
+    prints: &mut [u32; 768],
+    table: &mut [usize; 1658],
+    enums: &mut [usize; 2365],
+    claims: &mut [usize; 1020],
     out: &mut [u32],
     skip: usize,
     n: usize,
@@ -286,11 +265,6 @@ fn walk_wide(
     leave: usize,
     k: usize,
 ) -> Passed
-    requires in_bounds { 2040 ≤ length rows.old }
-    requires in_bounds_2 { 768 ≤ length prints.old }
-    requires in_bounds_3 { 1658 ≤ length table.old }
-    requires in_bounds_4 { 829 ≤ length enums.old }
-    requires claims_len { length claims.old ≡ 1020 }
     requires n_bound { n + 33295864 ≤ 2 ^ 40 }
     requires k_bound { k + 33228540 ≤ 2 ^ 40 }
     ensures walks_module { WalksModule doc.now out.old skip n result.errors out.new aside.old leave k result.warnings aside.new owner at result.end }
@@ -313,11 +287,11 @@ fn walk_module(
     owner: u32,
     turns: u8,
     places: &mut [usize],
-    rows: &mut [usize],
-    prints: &mut [u32],
-    table: &mut [usize],
-    enums: &mut [usize],
-    claims: &mut [usize],
+    rows: &mut [usize; 2040],
+    prints: &mut [u32; 768],
+    table: &mut [usize; 1658],
+    enums: &mut [usize; 2365],
+    claims: &mut [usize; 1020],
     out: &mut [u32],
     skip: usize,
     n: usize,
@@ -326,11 +300,6 @@ fn walk_module(
     k: usize,
 ) -> Passed
     requires in_bounds { 1544 ≤ length places.old }
-    requires in_bounds_2 { 2040 ≤ length rows.old }
-    requires in_bounds_3 { 768 ≤ length prints.old }
-    requires in_bounds_4 { 1658 ≤ length table.old }
-    requires in_bounds_5 { 829 ≤ length enums.old }
-    requires claims_len { length claims.old ≡ 1020 }
     requires n_bound { n + 33295864 ≤ 2 ^ 40 }
     requires k_bound { k + 33228540 ≤ 2 ^ 40 }
     ensures walks_module { WalksModule doc.now out.old skip n result.errors out.new aside.old leave k result.warnings aside.new owner at result.end }
@@ -382,24 +351,19 @@ fn walk_modules(
     doc: &[u8],
     at: usize,
     places: &mut [usize],
-    rows: &mut [usize],
-    prints: &mut [u32],
-    table: &mut [usize],
-    enums: &mut [usize],
-    claims: &mut [usize],
+    rows: &mut [usize; 2040],
+    prints: &mut [u32; 768],
+    table: &mut [usize; 1658],
+    enums: &mut [usize; 2365],
+    claims: &mut [usize; 1020],
     out: &mut [u32],
     skip: usize,
     n: usize,
     aside: &mut [u32],
     leave: usize,
     k: usize,
-) -> Totals
+) -> Counts
     requires in_bounds { 1544 ≤ length places.old }
-    requires in_bounds_2 { 2040 ≤ length rows.old }
-    requires in_bounds_3 { 768 ≤ length prints.old }
-    requires in_bounds_4 { 1658 ≤ length table.old }
-    requires in_bounds_5 { 829 ≤ length enums.old }
-    requires claims_len { length claims.old ≡ 1020 }
     requires n_bound { n + 532733824 ≤ 2 ^ 40 }
     requires k_bound { k + 531656640 ≤ 2 ^ 40 }
     ensures walks_modules { WalksModules doc.now out.old skip n result.errors out.new aside.old leave k result.warnings aside.new at }
@@ -408,8 +372,8 @@ fn walk_modules(
 {
     let c = Cursor { at };
     let a = c.count(doc, 16);
-    let Answer::Got(count, first) = a else {
-        return Totals {
+    let Ok((count, first)) = a else {
+        return Counts {
             errors: n,
             warnings: k,
         };
@@ -417,8 +381,7 @@ fn walk_modules(
     let mut here = first.at;
     let mut errors = n;
     let mut warnings = k;
-    let mut i: u64 = 0;
-    while i < count {
+    for i in 0..count {
         let passed = walk_module(
             doc,
             here,
@@ -440,9 +403,8 @@ fn walk_modules(
         here = passed.end;
         errors = passed.errors;
         warnings = passed.warnings;
-        i += 1;
     }
-    Totals { errors, warnings }
+    Counts { errors, warnings }
 }
 
 // Both walks over a whole document.
@@ -454,7 +416,7 @@ pub(crate) fn walk_all(
     aside: &mut [u32],
     leave: usize,
     k: usize,
-) -> Totals
+) -> Counts
     requires n_bound { n + 532733824 ≤ 2 ^ 40 }
     requires k_bound { k + 531656640 ≤ 2 ^ 40 }
     ensures walks_all { WalksAll doc.now out.old skip n result.errors out.new aside.old leave k result.warnings aside.new }

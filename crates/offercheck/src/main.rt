@@ -9,85 +9,57 @@ mod output;
 
 ghost use Rattle.std.specs.Prelude.{◌+◌, ◌≤◌, length};
 
-use findings::Reply;
+use findings::{Counts, Denied};
 use lists::print_lists;
 use output::{print_no_findings, print_refusal};
+use reading::Refusal;
 use std::io::{Read, Stdin, Stdout};
-use text::put_bytes;
 
 // What is found, from the words of each kind: 16,380 words hold 3,276 findings, and more are refusal 10. No accepted document has more
 // than 65,535 bytes.
-fn print_kinds<'a>(
-    out: Stdout,
-    doc: &'a [u8],
-    errors: &'a [u32],
-    e: usize,
-    warnings: &'a [u32],
-    w: usize,
-)
-    requires { e + w ≤ 1064390464 }
+fn print_kinds(out: Stdout, doc: &[u8], errors: &[u32], warnings: &[u32], counts: Counts)
+    requires { counts.errors + counts.warnings ≤ 1064390464 }
 {
-    let all = e + w;
+    let all = counts.errors + counts.warnings;
     if 3276 < all {
-        print_refusal(out, 10, all as u64);
-        return;
-    }
-    if all == 0 {
+        print_refusal(out, 10, all);
+    } else if all == 0 {
         print_no_findings(out);
-        return;
-    }
-    if doc.len() <= 65535 {
-        print_lists(out, doc, errors, e, warnings, w);
+    } else if doc.len() <= 65535 {
+        print_lists(out, doc, errors, warnings, counts);
     }
 }
 
 // What is found, from words that have the errors first: 1,020 words hold 204 findings.
-fn print_both<'a>(out: Stdout, doc: &'a [u8], words: &'a [u32], e: u64, w: u64)
-    requires doc_len_bound { length doc.now ≤ 0xffff }
-    requires in_bounds { 1020 ≤ length words.now }
+fn print_both(out: Stdout, doc: &[u8], words: &[u32; 1020], counts: Counts)
+    requires { length doc.now ≤ 4096 }
 {
-    if 204 < e {
+    let Counts { errors, warnings } = counts;
+    if 204 < errors || 204 < warnings {
         return;
     }
-    if 204 < w {
-        return;
-    }
-    if e + w == 0 {
+    if errors + warnings == 0 {
         print_no_findings(out);
         return;
     }
-    let errors = e as usize;
-    let middle = 5 * errors;
-    print_lists(
-        out,
-        doc,
-        &words[0..middle],
-        errors,
-        &words[middle..],
-        w as usize,
-    );
+    let (first, second) = words.split_at(5 * errors);
+    print_lists(out, doc, first, second, counts);
+}
+
+// The line of a document that is refused.
+fn print_refused(out: Stdout, refusal: Refusal) {
+    let Refusal { fault, place } = refusal;
+    print_refusal(out, offer::fault_number(fault), place);
 }
 
 // What is found in a document.
+#[tactic(auto, unfolding(findings::specs::Reply::counted))]
 fn check(out: Stdout, doc: &[u8]) {
     let mut errors = [0u32; 16380];
     let mut warnings = [0u32; 16380];
-    let r = findings::by_kind(doc, &mut errors, &mut warnings);
-    match r {
-        Reply::Counts(e, w) => print_kinds(out, doc, &errors, e, &warnings, w),
-        Reply::Refused(fault, place) => print_refusal(
-            out,
-            offer::fault_number(fault),
-            place as u64,
-        ),
-        Reply::Short(count) => print_refusal(out, 10, count as u64),
-    }
-}
-
-// What is found in the document that the first bytes of a space are.
-fn check_first(out: Stdout, space: &[u8], end: usize) {
-    if end <= space.len() {
-        check(out, &space[0..end]);
+    match findings::by_kind(doc, &mut errors, &mut warnings) {
+        Ok(counts) => print_kinds(out, doc, &errors, &warnings, counts),
+        Err(refusal) => print_refused(out, refusal),
     }
 }
 
@@ -96,10 +68,11 @@ fn read_full(mut input: Stdin, space: &mut [u8]) -> usize
     ensures { result ≤ length space.new }
 {
     let mut done = 0;
+    // A turn reads any number of bytes.
     while done < space.len() {
         let n = input.read(&mut space[done..]).unwrap_or(0);
         if n == 0 {
-            return done;
+            break;
         }
         done += n;
     }
@@ -109,26 +82,11 @@ fn read_full(mut input: Stdin, space: &mut [u8]) -> usize
 // Reads what is left of standard input.
 fn drain(input: Stdin) {
     let mut space = [0u8; 4096];
-    let mut left: u64 = 18446744073709551615;
-    while 0 < left {
-        let n = read_full(input, &mut space);
-        if n < 4096 {
+    for _ in 0..u64::MAX {
+        if read_full(input, &mut space) < 4096 {
             return;
         }
-        left -= 1;
     }
-}
-
-// Puts the start of a document into a space, and behind it what standard input has; the end of the document there.
-fn read_on(input: Stdin, space: &mut [u8], start: &[u8]) -> usize
-    requires { (4096 ≤ length space.old) × (length start.now ≤ 4096) }
-{
-    let k = put_bytes(space, 0, start);
-    let n = read_full(input, &mut space[k..]);
-    if k + n == 65536 {
-        drain(input);
-    }
-    k + n
 }
 
 // What is found in a document that starts so, and goes on in standard input.
@@ -136,8 +94,15 @@ fn check_from(input: Stdin, out: Stdout, start: &[u8])
     requires { length start.now ≤ 4096 }
 {
     let mut space = [0u8; 65536];
-    let end = read_on(input, &mut space, start);
-    check_first(out, &space, end);
+    let (front, rest) = space.split_at_mut(start.len());
+    front.copy_from_slice(start);
+    let end = start.len() + read_full(input, rest);
+    if end == 65536 {
+        drain(input);
+    }
+    if let Some(doc) = space.get(..end) {
+        check(out, doc);
+    }
 }
 
 // What is found in a whole document; where it is much, with more words.
@@ -145,17 +110,11 @@ fn check_short(input: Stdin, out: Stdout, doc: &[u8])
     requires { length doc.now ≤ 4096 }
 {
     let mut words = [0u32; 1020];
-    let mut answer = [0u64; 2];
-    let number = offer::offer_findings(doc, &mut words, &mut answer);
-    if number == 10 {
-        check_from(input, out, doc);
-        return;
+    match findings::findings(doc, &mut words) {
+        Ok(counts) => print_both(out, doc, &words, counts),
+        Err(Denied::Refused(refusal)) => print_refused(out, refusal),
+        Err(Denied::Short(_)) => check_from(input, out, doc),
     }
-    if number == 0 {
-        print_both(out, doc, &words, answer[0], answer[1]);
-        return;
-    }
-    print_refusal(out, number, answer[0]);
 }
 
 // A short document needs little memory.
@@ -165,8 +124,8 @@ fn main(rt: HostRuntime) {
     let mut space = [0u8; 4096];
     let n = read_full(input, &mut space);
     if n < 4096 {
-        check_short(input, out, &space[0..n]);
-        return;
+        check_short(input, out, &space[..n]);
+    } else {
+        check_from(input, out, &space);
     }
-    check_from(input, out, &space);
 }

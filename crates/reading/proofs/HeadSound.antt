@@ -5,7 +5,8 @@ use mathlib.Core.List.{List, ◌++◌}
 use native.Mathlib.Omega.{arith}
 use lib.ListN.{length, get_or}
 use borrow.Author.Tests.{ltb-true, ltb-false, leb-false, eqb-true, eqb-false, lt-ltb, le-ltb}
-use Rattle.reading.specs.Head.{Hd, long_head, settled, wide_head, simple, read_head, head_with, be1, be2, be4, be8}
+use Rattle.reading.specs.Head.{long_head, settled, wide_head, simple, read_head, head_with, be1, be2, be4, be8}
+use Rattle.reading.specs.declared.cursor.Head.{Head}
 use Rattle.reading.specs.Encode.{put1, put2, put4, put8, enc_head}
 use Rattle.reading.proofs.Rules.{pick_true, pick_false}
 use Rattle.reading.proofs.Gives.{Gives, gives_ok, gives_refused, gives_pick}
@@ -90,7 +91,7 @@ module _ (m v : ℕ) where
       let i : 65536 ≤ v = omega arith in
       rw (le-ltb v 24 k, pick_false, le-ltb v 256 j, pick_false, le-ltb v 65536 i, pick_false, le-ltb v 4294967296 l, pick_false)
 
-pub record HeadAt (s : List ℕ) (at : ℕ) (h : Hd) (n : ℕ) : Type 0 where
+pub record HeadAt (s : List ℕ) (at : ℕ) (h : Head) (n : ℕ) : Type 0 where
   pub kinds : h.major < 8
   pub small : h.argument < 18446744073709551616
   pub there : At s at (enc_head h.major h.argument) n

@@ -8,14 +8,15 @@ use lib.ListN.{length}
 use lib.Dec.{eqb}
 use borrow.Author.Tests.{eqb-true, ltb-false}
 use Rattle.reading.specs.Read.{ok, pick}
-use Rattle.reading.specs.Head.{Hd, long_head, settled, wide_head, simple, read_head, head_with}
+use Rattle.reading.specs.Head.{long_head, settled, wide_head, simple, read_head, head_with}
+use Rattle.reading.specs.declared.cursor.Head.{Head}
 use Rattle.reading.specs.Item.{read_kind}
 use Rattle.reading.specs.Items.{inside, payload, Items, none, more}
 use Rattle.reading.proofs.Rules.{no, pick_false}
 use Rattle.reading.proofs.Gives.{Gives, gives_ok, gives_refused, gives_pick, gives_bind, head_spans}
 
 -- a small argument stands in the head's first byte
-abbrev Short : ℕ → Hd → ℕ → Type 0
+abbrev Short : ℕ → Head → ℕ → Type 0
 Short at h n = h.argument < 24 → n ≡ at + 1
 
 module _ (s : List ℕ) (at : ℕ) where
@@ -50,7 +51,7 @@ module _ (s : List ℕ) (at : ℕ) where
       (λ _. gives_refused _ _ _)
 
 pub record Open (s : List ℕ) (k at n : ℕ) : Type 0 where
-  pub head : Hd
+  pub head : Head
   pub after : ℕ
   pub reads : read_head s at ≡ ok head after
   pub rest : Items s (k - 1 + inside head) (after + payload head) n
@@ -77,7 +78,7 @@ module _ {s : List ℕ} where
   pub items_same : {k a n m : ℕ} → Items s k a n → Items s k a m → n ≡ m
   items_same none none = refl
   items_same (more {k = k} h m e q) (more h' m' e' q') =
-      let x : k + inside h' ≡ k + inside h = ap (λ (z : Hd). k + inside z) (cc) in
+      let x : k + inside h' ≡ k + inside h = ap (λ (z : Head). k + inside z) (cc) in
       let y : m' + payload h' ≡ m + payload h = cc in
       items_same q (same_run q' x y)
 

@@ -11,7 +11,6 @@ pub mod Arms
 pub mod Whole
 pub mod Skips
 pub mod Passes
-pub mod Cycle
 pub mod At
 pub mod HeadSound
 pub mod HeadComplete

@@ -13,16 +13,16 @@ use Rattle.reading.specs.Head.{read_head, head_with, wide_head, long_head, settl
 use Rattle.reading.specs.Limits.{max_text}
 use Rattle.reading.specs.Item.{read_kind, read_tag}
 use Rattle.reading.specs.Text.{all, name_byte, text_bytes, read_text, read_name}
-use Rattle.reading.specs.Link.{answer, tagged_of, alphabet_of}
+use Rattle.reading.specs.Link.{refusal, answer, alphabet_of}
 use Rattle.reading.specs.Short.{is_one_byte, name_head, tag_head}
 use Rattle.reading.specs.declared.fault.Fault.TheVariants.{Truncated}
-use Rattle.reading.specs.declared.item.Answer.{Answer}
-use Rattle.reading.specs.declared.item.Answer.TheVariants.{Got, Refused}
-use Rattle.reading.specs.declared.item.Tagged.TheVariants as tagged
 use Rattle.reading.specs.declared.text.Text.TheVariants.{Name}
 use Rattle.reading.proofs.Rules.{no, pick_true, pick_false, bind_ok, bind_out}
-use Rattle.reading.proofs.Answers.{answer_ok, answer_out, tagged_ok}
+use Rattle.reading.proofs.Answers.{answer_ok, answer_out}
 use Rattle.reading.proofs.Strings.{text_done}
+use Rattle.std.specs.Prelude.{Result, Ok, Err}
+use Rattle.reading.specs.declared.fault.Refusal.{Refusal}
+use Rattle.reading.specs.declared.cursor.Cursor.{Cursor}
 
 -- a test that passed is none of those that would have failed it
 unless : (b c : Bool) → pick b false c ≡ true → (b ≡ false) × (c ≡ true)
@@ -36,9 +36,9 @@ both true y e = (refl, e)
 both false y e = no (cc)
 
 module _ (s : List ℕ) (due at : ℕ) where
-  pub kind_missing : length s ≤ at → Refused Truncated at ≡ answer (read_kind due s at)
+  pub kind_missing : length s ≤ at → {e : Refusal} → e ≡ refusal Truncated at → Err e ≡ answer (read_kind due s at)
   unfolding read_kind read_head
-  kind_missing h = rw (le-leb (length s) at h, pick_true, bind_out, answer_out)
+  kind_missing h q = rw (q, le-leb (length s) at h, pick_true, bind_out, answer_out)
 
   -- what the test says of the byte
   pub record OneByte (b : ℕ) : Type 0 where
@@ -69,7 +69,7 @@ module _ (s : List ℕ) (due at : ℕ) where
   unfolding read_kind
   kind_one h e = rw (head_one h e, bind_ok, eq-eqb due due refl, pick_true)
 
-  pub kind_short : {r : Bool} → at < length s → r ≡ is_one_byte due (get_or s at 0) → r ≡ true → Got (get_or s at 0 % 32) (record { at = at + 1 }) ≡ answer (read_kind due s at)
+  pub kind_short : {r : Bool} → at < length s → r ≡ is_one_byte due (get_or s at 0) → r ≡ true → Ok ((get_or s at 0 % 32), record { at = at + 1 }) ≡ answer (read_kind due s at)
   kind_short h e q = rw (kind_one h (sym e ∙ q), answer_ok)
 
 pub by_range : (due b : ℕ) → due ≤ 6 → due * 32 ≤ b → b < due * 32 + 24 → is_one_byte due b ≡ true
@@ -88,7 +88,7 @@ module _ (s : List ℕ) (at : ℕ) (b : get_or s at 0 ≡ 120) (h : at + 1 < len
   unfolding read_head head_with wide_head long_head settled be1 pick
   head_two = rw (lt-leb (length s) at (omega arith), b, le-ltb (length s - at - 1) 1 (omega arith), le-ltb (get_or s (at + 1) 0) 24 l)
 
-  pub kind_two : Got (get_or s (at + 1) 0) (record { at = at + 1 + 1 }) ≡ answer (read_kind 3 s at)
+  pub kind_two : Ok ((get_or s (at + 1) 0), record { at = at + 1 + 1 }) ≡ answer (read_kind 3 s at)
   unfolding read_kind
   kind_two = rw (head_two, bind_ok, pick_true, answer_ok)
 
@@ -116,7 +116,7 @@ two_bytes_are b case e =
 
 module _ (s : List ℕ) (at : ℕ) {r : Bool} (q : r ≡ true) where
   -- a string whose head is that of a name, in one byte
-  name_short : at < length s → r ≡ name_head (get_or s at 0) → {x : Answer} → x ≡ answer (map_r length (text_bytes (alphabet_of Name) s at (get_or s at 0 % 32) (at + 1))) → x ≡ answer (map_r length (read_name s at))
+  name_short : at < length s → r ≡ name_head (get_or s at 0) → {x : Result (ℕ × Cursor) Refusal} → x ≡ answer (map_r length (text_bytes (alphabet_of Name) s at (get_or s at 0 % 32) (at + 1))) → x ≡ answer (map_r length (read_name s at))
   unfolding name_head read_name read_text alphabet_of
   name_short h e z =
       let u = unless _ _ (sym e ∙ q) in
@@ -128,14 +128,14 @@ module _ (s : List ℕ) (at : ℕ) {r : Bool} (q : r ≡ true) where
       z ∙ sym (rw (kind_one s 3 at h one, bind_ok, le-ltb (get_or s at 0 % 32) 1 some, pick_false, le-ltb max_text (get_or s at 0 % 32) few, pick_false))
 
   -- a name whose head is one byte, with its bytes
-  pub name_read : {a : Bool} → at < length s → r ≡ name_head (get_or s at 0) → get_or s at 0 % 32 < length s - at → a ≡ all name_byte (take (at + 1 + get_or s at 0 % 32 - (at + 1)) (drop (at + 1) s)) → a ≡ true → Got (get_or s at 0 % 32) (record { at = at + 1 + get_or s at 0 % 32 }) ≡ answer (map_r length (read_name s at))
+  pub name_read : {a : Bool} → at < length s → r ≡ name_head (get_or s at 0) → get_or s at 0 % 32 < length s - at → a ≡ all name_byte (take (at + 1 + get_or s at 0 % 32 - (at + 1)) (drop (at + 1) s)) → a ≡ true → Ok ((get_or s at 0 % 32), record { at = at + 1 + get_or s at 0 % 32 }) ≡ answer (map_r length (read_name s at))
   unfolding alphabet_of
   name_read h e l p y = name_short h e (text_done name_byte s at (get_or s at 0 % 32) (at + 1) (omega arith) p y)
 
   -- the head of a data enum in two bytes
-  pub tag_short : 1 < length s - at → r ≡ tag_head (get_or s at 0) (get_or s (at + 1) 0) → tagged.Case (record { start = at; count = get_or s at 0 % 32; case = get_or s (at + 1) 0; place = at + 1 }) (record { at = at + 2 }) ≡ tagged_of (read_tag s at)
+  pub tag_short : 1 < length s - at → r ≡ tag_head (get_or s at 0) (get_or s (at + 1) 0) → Ok (record { start = at; count = get_or s at 0 % 32; case = get_or s (at + 1) 0; place = at + 1 }, record { at = at + 2 }) ≡ answer (read_tag s at)
   unfolding read_tag
   tag_short h e =
       let t = two_bytes_are _ _ (sym e ∙ q) in
       let n : at + 1 + 1 ≡ at + 2 = omega arith in
-      sym (rw (kind_one s 4 at (omega arith) t.array, bind_ok, ne_eqb (get_or s at 0 % 32) 0 t.some, pick_false, kind_one s 0 (at + 1) (omega arith) t.number, bind_ok, tagged_ok, t.itself, n))
+      sym (rw (kind_one s 4 at (omega arith) t.array, bind_ok, ne_eqb (get_or s at 0 % 32) 0 t.some, pick_false, kind_one s 0 (at + 1) (omega arith) t.number, bind_ok, answer_ok, t.itself, n))

@@ -8,49 +8,45 @@ use native.Mathlib.Nat.{add-sub_cancel_left}
 use lib.ListN.{length, take, drop, get_or}
 use borrow.Author.Tests.{lt-ltb, le-ltb, le-leb, ltb-false}
 use Rattle.reading.specs.Read.{Read, ok, refused, bind}
-use Rattle.reading.specs.Head.{Hd, read_head}
+use Rattle.reading.specs.Head.{read_head}
+use Rattle.reading.specs.declared.cursor.Head.{Head}
 use Rattle.reading.specs.Item.{read_kind}
 use Rattle.reading.specs.Items.{inside, payload, Items, none, more}
 use Rattle.reading.specs.Skip.{skip_body, skip_head, skip_or, skip_within, skip_items, span_of, text_at}
-use Rattle.reading.specs.Link.{head_of, answer, stands, step_of}
+use Rattle.reading.specs.Link.{refusal, answer, stands}
 use Rattle.reading.specs.Short.{is_one_byte}
-use Rattle.reading.specs.declared.fault.Fault.{Fault}
 use Rattle.reading.specs.declared.fault.Fault.TheVariants.{Truncated}
 use Rattle.reading.specs.declared.cursor.Cursor.{Cursor}
-use Rattle.reading.specs.declared.cursor.Head.{Head}
-use Rattle.reading.specs.declared.cursor.Head.TheVariants as head
-use Rattle.reading.specs.declared.item.Answer.{Answer}
-use Rattle.reading.specs.declared.item.Answer.TheVariants.{Got, Refused}
-use Rattle.reading.specs.declared.step.Step.{Step}
-use Rattle.reading.specs.declared.step.Step.TheVariants as step
 use Rattle.reading.proofs.Rules.{pick_true, pick_false, bind_ok, bind_out}
 use Rattle.reading.proofs.Gives.{Gives, gives_ok, gives_refused, gives_pick, gives_bind, head_spans, kind_fits}
 use Rattle.reading.proofs.Items.{items_room}
 use Rattle.reading.proofs.Short.{kind_short, kind_two}
-use Rattle.reading.proofs.Answers.{num, out, hd, hd_out, answer_ok, answer_out, stands_ok, stands_out}
+use Rattle.reading.proofs.Answers.{got, out, answer_ok, answer_out, stands_ok, stands_out}
+use Rattle.std.specs.Prelude.{Result, Ok, Err}
+use Rattle.reading.specs.declared.fault.Refusal.{Refusal}
 
 -- after one head
 module _ (left items bytes : ℕ) (s : List ℕ) (at n : ℕ) where
-  pub body_short : length s - n < left + items + bytes → Refused Truncated at ≡ answer (skip_body left items bytes s at n)
+  pub body_short : length s - n < left + items + bytes → {e : Refusal} → e ≡ refusal Truncated at → Err e ≡ answer (skip_body left items bytes s at n)
   unfolding skip_body
-  body_short h = rw (lt-ltb (length s - n) (left + items + bytes) h, pick_true, answer_out)
+  body_short h q = rw (q, lt-ltb (length s - n) (left + items + bytes) h, pick_true, answer_out)
 
-  pub body_room : left + items + bytes ≤ length s - n → Got (left + items) (record { at = n + bytes }) ≡ answer (skip_body left items bytes s at n)
+  pub body_room : left + items + bytes ≤ length s - n → Ok ((left + items), record { at = n + bytes }) ≡ answer (skip_body left items bytes s at n)
   unfolding skip_body
   body_room h = rw (le-ltb (length s - n) (left + items + bytes) h, pick_false, answer_ok)
 
-module _ (left : ℕ) (s : List ℕ) (at : ℕ) {h : Head} (e : h ≡ head_of (read_head s at)) where
-  module _ {a b : ℕ} {c : Cursor} (q : h ≡ head.Item a b c) where
+module _ (left : ℕ) (s : List ℕ) (at : ℕ) {r : Result (Head × Cursor) Refusal} (e : r ≡ answer (read_head s at)) where
+  module _ {h : Head} {c : Cursor} (q : r ≡ Ok (h, c)) where
     pub body_from : c.at ≤ length s
-    body_from = (head_spans s at _ _ (hd _ e q)).1
+    body_from = (head_spans s at _ _ (got _ e q)).1
 
-    pub head_body : {i p : ℕ} {x : Answer} → i ≡ inside (record { major = a; argument = b }) → p ≡ payload (record { major = a; argument = b }) → x ≡ answer (skip_body left i p s at c.at) → x ≡ answer (skip_head left s at)
+    pub head_body : {i p : ℕ} {x : Result (ℕ × Cursor) Refusal} → i ≡ inside h → p ≡ payload h → x ≡ answer (skip_body left i p s at c.at) → x ≡ answer (skip_head left s at)
     unfolding skip_head
-    head_body {i} {p} u v z = z ∙ rw (u, v) (sym (rw (hd _ e q, bind_ok)))
+    head_body {i} {p} u v z = z ∙ rw (u, v) (sym (rw (got _ e q, bind_ok)))
 
-  pub head_none : {f : Fault} {p : ℕ} → h ≡ head.Refused f p → Refused f p ≡ answer (skip_head left s at)
+  pub head_none : {w : Refusal} → r ≡ Err w → Err w ≡ answer (skip_head left s at)
   unfolding skip_head
-  head_none q = rw (hd_out _ e q, bind_out, answer_out)
+  head_none q = rw (out _ e q, bind_out, answer_out)
 
 -- one turn goes forward, inside the document
 pub skip_spans : (k : ℕ) (s : List ℕ) (at : ℕ) → Gives (λ _ n. (at < n) × (n ≤ length s)) (skip_head k s at)
@@ -102,32 +98,31 @@ skip_zero s at = none_left (length s - at)
 
 -- the loop: the items left from here decide what is answered, w
 module _ (left : ℕ) (s : List ℕ) (at : ℕ) (w : Read (Unit {0})) (decides : skip_items left s at ≡ w) where
-  pub skip_done : left ≤ 0 → step.To (record { at = at }) ≡ stands w
+  pub skip_done : left ≤ 0 → Ok (record { at = at }) ≡ stands w
   skip_done h =
       let z : left ≡ 0 = omega arith in
       sym (ap stands (sym decides) ∙ rw (z, skip_zero, stands_ok))
 
-  module _ (some : 0 < left) {a : Answer} (e : a ≡ answer (skip_head (left - 1) s at)) where
+  module _ (some : 0 < left) {a : Result (ℕ × Cursor) Refusal} (e : a ≡ answer (skip_head (left - 1) s at)) where
     first : w ≡ bind (skip_head (left - 1) s at) λ left n. skip_items left s n
     first =
         let k : left ≡ suc (left - 1) = omega arith in
         sym decides ∙ ap (λ (z : ℕ). skip_items z s at) k ∙ skip_suc (left - 1) s at
 
-    pub skip_on : {items : ℕ} {c : Cursor} → a ≡ Got items c → skip_items items s c.at ≡ w
-    skip_on q = sym (first ∙ rw (num _ e q, bind_ok))
+    pub skip_on : {items : ℕ} {c : Cursor} → a ≡ Ok (items, c) → skip_items items s c.at ≡ w
+    skip_on q = sym (first ∙ rw (got _ e q, bind_ok))
 
-    pub skip_further : {items : ℕ} {c : Cursor} {v : Read (Unit {0})} → a ≡ Got items c → v ≡ skip_items items s c.at → v ≡ w
+    pub skip_further : {items : ℕ} {c : Cursor} {v : Read (Unit {0})} → a ≡ Ok (items, c) → v ≡ skip_items items s c.at → v ≡ w
     skip_further q x = x ∙ skip_on q
 
-    pub skip_less : {items n : ℕ} {c : Cursor} → a ≡ Got items c → c.at ≤ n → length s - n < length s - at
-    skip_less q h = let p = skip_spans (left - 1) s at _ _ (num _ e q) in omega (arith, p.0, p.1)
+    pub skip_less : {items n : ℕ} {c : Cursor} → a ≡ Ok (items, c) → c.at ≤ n → length s - n < length s - at
+    skip_less q h = let p = skip_spans (left - 1) s at _ _ (got _ e q) in omega (arith, p.0, p.1)
 
-    pub skip_out : {f : Fault} {p : ℕ} {x : Step} → a ≡ Refused f p → x ≡ step_of a → x ≡ stands w
-    unfolding step_of
-    skip_out q h = h ∙ ap step_of q ∙ sym (rw (first, out _ e q, bind_out, stands_out))
+    pub skip_out : {f : Refusal} → a ≡ Err f → Err f ≡ stands w
+    skip_out q = sym (rw (first, out _ e q, bind_out, stands_out))
 
 -- items that stand there are passed
-pub passed_head : (s : List ℕ) (k at : ℕ) (h : Hd) (m : ℕ) → read_head s at ≡ ok h m → k + inside h + payload h ≤ length s - m → skip_head k s at ≡ ok (k + inside h) (m + payload h)
+pub passed_head : (s : List ℕ) (k at : ℕ) (h : Head) (m : ℕ) → read_head s at ≡ ok h m → k + inside h + payload h ≤ length s - m → skip_head k s at ≡ ok (k + inside h) (m + payload h)
 unfolding skip_head skip_body
 passed_head s k at h m e t = rw (e, bind_ok, le-ltb (length s - m) (k + inside h + payload h) t, pick_false)
 
@@ -140,25 +135,25 @@ items_passed {s} {k} {at} (more {k = j} h m e r) f =
     skip_suc j s at ∙ rw (passed_head s j at h m e t, bind_ok) (items_passed r f)
 
 -- a string's part
-module _ (s : List ℕ) (at : ℕ) {a : Answer} (e : a ≡ answer (read_kind 3 s at)) where
-  pub span_refused : {f : Fault} {p : ℕ} → a ≡ Refused f p → [] ≡ text_at s at
+module _ (s : List ℕ) (at : ℕ) {a : Result (ℕ × Cursor) Refusal} (e : a ≡ answer (read_kind 3 s at)) where
+  pub span_refused : {w : Refusal} → a ≡ Err w → [] ≡ text_at s at
   unfolding text_at span_of
   span_refused q = rw (out _ e q)
 
-  module _ {len : ℕ} {c : Cursor} (q : a ≡ Got len c) where
+  module _ {len : ℕ} {c : Cursor} (q : a ≡ Ok (len, c)) where
     pub span_from : c.at ≤ length s
-    span_from = kind_fits s at 3 len c.at (num _ e q)
+    span_from = kind_fits s at 3 len c.at (got _ e q)
 
     pub span_short : length s - c.at < len → [] ≡ text_at s at
     unfolding text_at span_of
-    span_short h = rw (num _ e q, lt-ltb (length s - c.at) len h, pick_true)
+    span_short h = rw (got _ e q, lt-ltb (length s - c.at) len h, pick_true)
 
     pub span_end : len ≤ length s - c.at → c.at + len ≤ length s
     span_end h = omega (arith, span_from)
 
     pub span_whole : len ≤ length s - c.at → take (c.at + len - c.at) (drop c.at s) ≡ text_at s at
     unfolding text_at span_of
-    span_whole h = ap (λ (k : ℕ). take k (drop c.at s)) (add-sub_cancel_left c.at len) ∙ sym (rw (num _ e q, le-ltb (length s - c.at) len h, pick_false))
+    span_whole h = ap (λ (k : ℕ). take k (drop c.at s)) (add-sub_cancel_left c.at len) ∙ sym (rw (got _ e q, le-ltb (length s - c.at) len h, pick_false))
 
 -- and where its head is one byte
 module _ (s : List ℕ) (at : ℕ) (h : at < length s) {r : Bool} (e : r ≡ is_one_byte 3 (get_or s at 0)) (q : r ≡ true) where

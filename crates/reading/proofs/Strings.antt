@@ -14,17 +14,17 @@ use Rattle.reading.specs.Read.{pick, map_r}
 use Rattle.reading.specs.Limits.{max_text}
 use Rattle.reading.specs.Item.{read_kind}
 use Rattle.reading.specs.Text.{all, name_byte, version_byte, text_bytes, read_text}
-use Rattle.reading.specs.Link.{answer, least_of, alphabet_of}
+use Rattle.reading.specs.Link.{refusal, answer, least_of, alphabet_of}
 use Rattle.reading.specs.Short.{tally, count}
 use Rattle.reading.specs.declared.fault.Fault.TheVariants.{Truncated, OutOfRange, OutsideAlphabet}
 use Rattle.reading.specs.declared.cursor.Cursor.{Cursor}
-use Rattle.reading.specs.declared.item.Answer.{Answer}
-use Rattle.reading.specs.declared.item.Answer.TheVariants.{Got, Refused}
 use Rattle.reading.specs.declared.text.Text.{Text}
 use Rattle.reading.specs.declared.text.Text.TheVariants.{Name, Version}
 use Rattle.reading.proofs.Rules.{by, pick_true, pick_false, bind_ok, map_ok, map_out}
 use Rattle.reading.proofs.Gives.{kind_fits}
-use Rattle.reading.proofs.Answers.{num, answer_ok, answer_out}
+use Rattle.reading.proofs.Answers.{got, answer_ok, answer_out}
+use Rattle.std.specs.Prelude.{Result, Ok, Err}
+use Rattle.reading.specs.declared.fault.Refusal.{Refusal}
 
 -- the kinds of string
 module _ {t : Text} where
@@ -89,9 +89,9 @@ module _ (p : ℕ → Bool) where
 
 -- the string's bytes, len of them after its head
 module _ (p : ℕ → Bool) (s : List ℕ) (at len from : ℕ) where
-  pub text_short : length s - from < len → Refused Truncated at ≡ answer (map_r length (text_bytes p s at len from))
+  pub text_short : length s - from < len → {e : Refusal} → e ≡ refusal Truncated at → Err e ≡ answer (map_r length (text_bytes p s at len from))
   unfolding text_bytes
-  text_short h = rw (lt-ltb (length s - from) len h, pick_true, map_out, answer_out)
+  text_short h q = rw (q, lt-ltb (length s - from) len h, pick_true, map_out, answer_out)
 
   module _ {r : Bool} (h : len ≤ length s - from) (e : r ≡ all p (take (from + len - from) (drop from s))) where
     part : all p (take len (drop from s)) ≡ r
@@ -100,34 +100,34 @@ module _ (p : ℕ → Bool) (s : List ℕ) (at len from : ℕ) where
     part_length : length (take len (drop from s)) ≡ len
     part_length = length-take-le len (drop from s) (rw (length-drop from s) h)
 
-    pub text_done : r ≡ true → Got len (record { at = from + len }) ≡ answer (map_r length (text_bytes p s at len from))
+    pub text_done : r ≡ true → Ok (len, record { at = from + len }) ≡ answer (map_r length (text_bytes p s at len from))
     unfolding text_bytes
     text_done q = rw (le-ltb (length s - from) len h, pick_false, part ∙ q, pick_true, map_ok, answer_ok, part_length)
 
-    pub text_fault : r ≡ false → Refused OutsideAlphabet at ≡ answer (map_r length (text_bytes p s at len from))
+    pub text_fault : r ≡ false → {e : Refusal} → e ≡ refusal OutsideAlphabet at → Err e ≡ answer (map_r length (text_bytes p s at len from))
     unfolding text_bytes
-    text_fault q = rw (le-ltb (length s - from) len h, pick_false, part ∙ q, pick_false, map_out, answer_out)
+    text_fault q f = rw (f, le-ltb (length s - from) len h, pick_false, part ∙ q, pick_false, map_out, answer_out)
 
 -- a string's head was read, and its length is judged
-module _ (t : Text) (s : List ℕ) (at : ℕ) {a : Answer} {len : ℕ} {c : Cursor} (e : a ≡ answer (read_kind 3 s at)) (q : a ≡ Got len c) where
+module _ (t : Text) (s : List ℕ) (at : ℕ) {a : Result (ℕ × Cursor) Refusal} {len : ℕ} {c : Cursor} (e : a ≡ answer (read_kind 3 s at)) (q : a ≡ Ok (len, c)) where
   pub text_from : c.at ≤ length s
-  text_from = kind_fits s at 3 len c.at (num _ e q)
+  text_from = kind_fits s at 3 len c.at (got _ e q)
 
   module _ {l : ℕ} (b : l ≡ least_of t) where
-    pub text_under : len < l → Refused OutOfRange at ≡ answer (map_r length (read_text (least_of t) (alphabet_of t) s at))
+    pub text_under : len < l → {e : Refusal} → e ≡ refusal OutOfRange at → Err e ≡ answer (map_r length (read_text (least_of t) (alphabet_of t) s at))
     unfolding read_text
-    text_under h =
+    text_under h f =
         let k : len < least_of t = rw b at h in
-        rw (num _ e q, bind_ok, lt-ltb len (least_of t) k, pick_true, map_out, answer_out)
+        rw (f, got _ e q, bind_ok, lt-ltb len (least_of t) k, pick_true, map_out, answer_out)
 
     module _ (m : l ≤ len) where
       enough : ltb len (least_of t) ≡ false
       enough = le-ltb len (least_of t) (rw b at m)
 
-      pub text_over : max_text < len → Refused OutOfRange at ≡ answer (map_r length (read_text (least_of t) (alphabet_of t) s at))
+      pub text_over : max_text < len → {e : Refusal} → e ≡ refusal OutOfRange at → Err e ≡ answer (map_r length (read_text (least_of t) (alphabet_of t) s at))
       unfolding read_text
-      text_over h = rw (num _ e q, bind_ok, enough, pick_false, lt-ltb max_text len h, pick_true, map_out, answer_out)
+      text_over h f = rw (f, got _ e q, bind_ok, enough, pick_false, lt-ltb max_text len h, pick_true, map_out, answer_out)
 
-      pub text_inside : len ≤ max_text → {x : Answer} → x ≡ answer (map_r length (text_bytes (alphabet_of t) s at len c.at)) → x ≡ answer (map_r length (read_text (least_of t) (alphabet_of t) s at))
+      pub text_inside : len ≤ max_text → {x : Result (ℕ × Cursor) Refusal} → x ≡ answer (map_r length (text_bytes (alphabet_of t) s at len c.at)) → x ≡ answer (map_r length (read_text (least_of t) (alphabet_of t) s at))
       unfolding read_text
-      text_inside h z = z ∙ sym (rw (num _ e q, bind_ok, enough, pick_false, le-ltb max_text len h, pick_false))
+      text_inside h z = z ∙ sym (rw (got _ e q, bind_ok, enough, pick_false, le-ltb max_text len h, pick_false))

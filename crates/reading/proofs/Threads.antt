@@ -1,279 +1,202 @@
--- Reading on after a step: what a chain of step methods reads is what the reader of its parts gives.
-use Prim.Native.Nat.{ℕ, suc, ◌+◌, ◌-◌, ◌<◌, ◌≤◌}
+-- Items one after the other, by where they end: each law is a step of the code, which goes on from a cursor or hands a refusal on.
+use Prim.Native.Nat.{ℕ, zero, suc, ◌+◌, ◌-◌, ◌<◌, ◌≤◌}
 use mathlib.Core.Path.{◌≡◌, refl, sym, ap, ◌∙◌}
 use mathlib.Core.List.{List, ◌∷◌}
 use mathlib.Core.Bool.{Bool, true, false}
-use mathlib.Core.Option.{none, some}
+use mathlib.Core.Option.{some, none}
 use native.Mathlib.Omega.{arith}
-use native.Mathlib.Nat.{sub-zero}
-use lib.ListN.{length, get_or, get_or-eq_default}
 use lib.Dec.{eqb}
+use lib.ListN.{get_or-eq_default}
 use borrow.Author.Tests.{ne_eqb}
+use Rattle.std.specs.Prelude.{Option, Some, None, Result, Ok, Err, length, get_or}
 use Rattle.reading.specs.Read.{Read, Reader, ok, refused, pick, bind, map_r}
 use Rattle.reading.specs.Item.{read_fields, read_count, read_tag}
 use Rattle.reading.specs.Combine.{◌then◌, record_of, entries, list_of, optional, Cases, sized, enum_of}
-use Rattle.reading.specs.Link.{answer, tagged_of, stands, onward, step_of, value_of, answer_after, tagged_after, null_after, deep}
-use Rattle.reading.specs.declared.fault.Fault.{Fault}
-use Rattle.reading.specs.declared.fault.Fault.TheVariants.{Unexpected, TooDeep}
+use Rattle.reading.specs.Link.{answer, stands, and_then, Ends, entries_end, list_from, list_ends, past_null, optional_from, optional_ends, one_ends}
+use Rattle.reading.specs.declared.fault.Fault.TheVariants.{Unexpected}
+use Rattle.reading.specs.declared.fault.Refusal.{Refusal}
 use Rattle.reading.specs.declared.cursor.Cursor.{Cursor}
-use Rattle.reading.specs.declared.item.Answer.{Answer}
-use Rattle.reading.specs.declared.item.Answer.TheVariants.{Got, Refused}
 use Rattle.reading.specs.declared.item.Tag.{Tag}
-use Rattle.reading.specs.declared.item.Tagged.{Tagged}
-use Rattle.reading.specs.declared.item.Tagged.TheVariants as tagged
-use Rattle.reading.specs.declared.step.Step.{Step}
-use Rattle.reading.specs.declared.step.Step.TheVariants as step
-use Rattle.reading.specs.declared.step.Null.{Null}
-use Rattle.reading.specs.declared.step.Null.TheVariants as null
 use Rattle.reading.proofs.Rules.{no, pick_true, pick_false}
+use Rattle.reading.proofs.Answers.{got, out, stood, stood_out}
 
--- a step that leads to a cursor, and one that is refused
-module _ {A : Type 0} (s : List ℕ) (F : Reader A) where
-  pub onward_to : {r : Step} {c : Cursor} → r ≡ step.To c → stands (F s c.at) ≡ onward s r F
-  unfolding onward
-  onward_to e = sym (ap (λ (z : Step). onward s z F) e)
+-- what was handed on
+pub on_error : {A : Type 0} {r y x : A} → y ≡ x → r ≡ y → r ≡ x
+on_error e q = q ∙ e
 
-  pub step_to : {r x : Step} {c : Cursor} → r ≡ step.To c → x ≡ stands (F s c.at) → x ≡ onward s r F
-  step_to e q = q ∙ onward_to e
+-- null, by the byte that stands there
+module _ (s : List ℕ) (at : ℕ) where
+  pub null_here : get_or s at 0 ≡ 246 → Some (record { at = at + 1 }) ≡ past_null s at
+  unfolding past_null
+  null_here h = rw (h, pick_true)
 
-  pub onward_out : {r : Step} {f : Fault} {p : ℕ} → r ≡ step.Refused f p → step.Refused f p ≡ onward s r F
-  unfolding onward
-  onward_out e = sym (ap (λ (z : Step). onward s z F) e)
+  pub null_elsewhere : (get_or s at 0 ≡ 246 → ⊥) → None ≡ past_null s at
+  unfolding past_null
+  null_elsewhere h = rw (ne_eqb (get_or s at 0) 246 h, pick_false)
 
--- the parts of an answer, and what is read after a step, by cases
-module _ {r : Answer} where
-  pub step_got : {v : ℕ} {c : Cursor} → r ≡ Got v c → step.To c ≡ step_of r
-  unfolding step_of
-  step_got e = sym (ap step_of e)
+  pub null_beyond : length s ≤ at → None ≡ past_null s at
+  null_beyond h = null_elsewhere (λ q. let z : get_or s at 0 ≡ 0 = get_or-eq_default s 0 h in omega arith)
 
-  pub step_out : {f : Fault} {p : ℕ} → r ≡ Refused f p → step.Refused f p ≡ step_of r
-  unfolding step_of
-  step_out e = sym (ap step_of e)
+-- on from a cursor, from a list's count, and after null
+module _ {r m : Result Cursor Refusal} (k : Cursor → Result Cursor Refusal) (e : r ≡ m) where
+  pub onward_out : {w : Refusal} → r ≡ Err w → Err w ≡ and_then m k
+  unfolding and_then
+  onward_out q = let h = sym e ∙ q in rw h
 
-  pub value_got : {v : ℕ} {c : Cursor} → r ≡ Got v c → v ≡ value_of r
-  unfolding value_of
-  value_got e = sym (ap value_of e)
+  pub onward_on : {c : Cursor} {x : Result Cursor Refusal} → r ≡ Ok c → x ≡ k c → x ≡ and_then m k
+  unfolding and_then
+  onward_on q h = let g = sym e ∙ q in h ∙ rw g
 
-  pub value_out : {f : Fault} {p : ℕ} → r ≡ Refused f p → 0 ≡ value_of r
-  unfolding value_of
-  value_out e = sym (ap value_of e)
+-- a list: what is due of its entries from here decides what is answered, x
+module _ (e : Ends) (s : List ℕ) where
+  module _ (n i : ℕ) {c : Cursor} {x : Result Cursor Refusal} (decides : entries_end (n - i) e s c.at ≡ x) where
+    module _ (more : i < n) {r : Result Cursor Refusal} (q : r ≡ e s c.at) where
+      entry : and_then r (λ d. entries_end (n - (i + 1)) e s d.at) ≡ x
+      unfolding entries_end
+      entry =
+          let k : suc (n - (i + 1)) ≡ n - i = omega arith in
+          ap (λ (z : Result Cursor Refusal). and_then z (λ d. entries_end (n - (i + 1)) e s d.at)) q ∙ ap (λ (z : ℕ). entries_end z e s c.at) k ∙ decides
 
-module _ {r : Step} where
-  pub answer_to : (s : List ℕ) (F : Reader ℕ) {c : Cursor} {a : Answer} → r ≡ step.To c → a ≡ answer (F s c.at) → a ≡ answer_after s r F
-  unfolding answer_after
-  answer_to s F e q = q ∙ sym (ap (λ (z : Step). answer_after s z F) e)
+      pub entry_read : {d : Cursor} → r ≡ Ok d → entries_end (n - (i + 1)) e s d.at ≡ x
+      unfolding and_then
+      entry_read h = sym (rw h) ∙ entry
 
-  pub answer_refused : (s : List ℕ) (F : Reader ℕ) {f : Fault} {p : ℕ} → r ≡ step.Refused f p → Refused f p ≡ answer_after s r F
-  unfolding answer_after
-  answer_refused s F e = sym (ap (λ (z : Step). answer_after s z F) e)
+      pub entry_out : {w : Refusal} → r ≡ Err w → Err w ≡ x
+      unfolding and_then
+      entry_out h = sym (rw h) ∙ entry
 
-  pub tagged_to : (s : List ℕ) (F : Reader Tag) {c : Cursor} {h : Tagged} → r ≡ step.To c → h ≡ tagged_of (F s c.at) → h ≡ tagged_after s r F
-  unfolding tagged_after
-  tagged_to s F e q = q ∙ sym (ap (λ (z : Step). tagged_after s z F) e)
+    pub entries_done : n ≤ i → Ok c ≡ x
+    unfolding entries_end
+    entries_done h = let k : 0 ≡ n - i = omega arith in ap (λ (z : ℕ). entries_end z e s c.at) k ∙ decides
 
-  pub tagged_refused : (s : List ℕ) (F : Reader Tag) {f : Fault} {p : ℕ} → r ≡ step.Refused f p → tagged.Refused f p ≡ tagged_after s r F
-  unfolding tagged_after
-  tagged_refused s F e = sym (ap (λ (z : Step). tagged_after s z F) e)
+  module _ {r m : Result (ℕ × Cursor) Refusal} (q : r ≡ m) where
+    pub list_out : {w : Refusal} → r ≡ Err w → Err w ≡ list_from m e s
+    unfolding list_from
+    list_out h = let g = sym q ∙ h in rw g
 
-  pub deep_to : {c : Cursor} → r ≡ step.To c → step.Refused TooDeep c.at ≡ deep r
-  unfolding deep
-  deep_to e = sym (ap deep e)
+    pub list_on : {n : ℕ} {c : Cursor} {x : Result Cursor Refusal} → r ≡ Ok (n, c) → entries_end n e s c.at ≡ x → x ≡ list_from m e s
+    unfolding list_from
+    list_on h k = let g = sym q ∙ h in sym k ∙ rw g
 
-  pub deep_refused : {f : Fault} {p : ℕ} → r ≡ step.Refused f p → step.Refused f p ≡ deep r
-  unfolding deep
-  deep_refused e = sym (ap deep e)
+module _ {o p : Option Cursor} (e : o ≡ p) where
+  pub optional_null : (y : Result Cursor Refusal) {c : Cursor} → o ≡ Some c → Ok c ≡ optional_from p y
+  unfolding optional_from
+  optional_null y q = let g = sym e ∙ q in rw g
 
-  -- null stands at the cursor, or does not
-  module _ (s : List ℕ) {c : Cursor} (e : r ≡ step.To c) where
-    pub null_here : get_or s c.at 0 ≡ 246 → null.Past (record { at = c.at + 1 }) ≡ null_after s r
-    unfolding null_after
-    null_here q = sym (ap (null_after s) e ∙ rw (q, pick_true))
+  pub optional_some : {x y : Result Cursor Refusal} → o ≡ None → x ≡ y → x ≡ optional_from p y
+  unfolding optional_from
+  optional_some q h = let g = sym e ∙ q in h ∙ rw g
 
-    pub null_elsewhere : (get_or s c.at 0 ≡ 246 → ⊥) → null.Not ≡ null_after s r
-    unfolding null_after
-    null_elsewhere q = sym (ap (null_after s) e ∙ rw (ne_eqb (get_or s c.at 0) 246 q, pick_false))
+-- what is made of the content changes nothing
+pub stands_map : {A B : Type 0} (make : A → B) (m : Read A) → stands (map_r make m) ≡ stands m
+unfolding stands map_r
+stands_map make (ok a n) = refl
+stands_map make (refused f p) = refl
 
-    pub null_past_end : length s ≤ c.at → null.Not ≡ null_after s r
-    null_past_end h = null_elsewhere (λ q. let z : get_or s c.at 0 ≡ 0 = get_or-eq_default s 0 h in omega arith)
+-- what follows, where the content read first doesn't decide what
+module _ {A B : Type 0} (m : Read A) (k : A → ℕ → Read B) {r : Result Cursor Refusal} (e : r ≡ stands m) where
+  bound_out : {w : Refusal} → r ≡ Err w → Err w ≡ stands (bind m k)
+  unfolding bind stands
+  bound_out q = let h = stood_out m e q in sym (ap (λ (z : Read A). stands (bind z k)) h)
 
-  pub null_refused : (s : List ℕ) {f : Fault} {p : ℕ} → r ≡ step.Refused f p → null.Not ≡ null_after s r
-  unfolding null_after
-  null_refused s e = sym (ap (null_after s) e)
+  bound_on : {c : Cursor} {x : Result Cursor Refusal} → r ≡ Ok c → ((a : A) → x ≡ stands (k a c.at)) → x ≡ stands (bind m k)
+  unfolding bind
+  bound_on q h = let p = stood m e q in h p.0 ∙ sym (ap (λ (z : Read A). stands (bind z k)) p.1)
 
--- the number of an answer is dropped
-step_answer : {A : Type 0} (g : A → ℕ) (m : Read A) → step_of (answer (map_r g m)) ≡ stands m
-unfolding step_of answer stands map_r
-step_answer g (ok a n) = refl
-step_answer g (refused f p) = refl
+-- a number or a bool alone
+module _ {A : Type 0} (m : Read A) {r : Result (A × Cursor) Refusal} (e : r ≡ answer m) where
+  pub past_out : {w : Refusal} → r ≡ Err w → Err w ≡ stands m
+  unfolding stands
+  past_out q = sym (ap stands (out m e q))
 
-step_number : (m : Read ℕ) → step_of (answer m) ≡ stands m
-unfolding step_of answer stands
-step_number (ok a n) = refl
-step_number (refused f p) = refl
+  pub past_on : {a : A} {c : Cursor} → r ≡ Ok (a, c) → Ok c ≡ stands m
+  unfolding stands
+  past_on q = sym (ap stands (got m e q))
 
-module _ (s : List ℕ) {r : Step} {c : Cursor} {a : Answer} {x : Step} where
-  pub number_step : (F : Reader ℕ) → r ≡ step.To c → a ≡ answer (F s c.at) → x ≡ step_of a → x ≡ onward s r F
-  number_step F e q h = h ∙ ap step_of q ∙ step_number _ ∙ onward_to s F e
+module _ {A B : Type 0} (s : List ℕ) (at : ℕ) {r : Result Cursor Refusal} where
+  -- two items
+  module _ (F : Reader A) (G : Reader B) (e : r ≡ stands (F s at)) where
+    pub then_out : {w : Refusal} → r ≡ Err w → Err w ≡ stands ((F then G) s at)
+    unfolding ◌then◌
+    then_out q = bound_out (F s at) _ e q
 
-  pub content_step : {A : Type 0} (g : A → ℕ) (F : Reader A) → r ≡ step.To c → a ≡ answer (map_r g (F s c.at)) → x ≡ step_of a → x ≡ onward s r F
-  content_step g F e q h = h ∙ ap step_of q ∙ step_answer g _ ∙ onward_to s F e
+    pub then_on : {c : Cursor} {x : Result Cursor Refusal} → r ≡ Ok c → x ≡ stands (G s c.at) → x ≡ stands ((F then G) s at)
+    unfolding ◌then◌
+    then_on q h = bound_on (F s at) _ e q λ a. h ∙ sym (stands_map _ (G s _))
 
--- one reader after another
-module _ {A B : Type 0} (s : List ℕ) (F : Reader A) (G : Reader B) where
-  then_from : (m : Read A) → onward s (stands m) G ≡ stands {A = A × B} (bind m λ a n. map_r (λ b. (a, b)) (G s n))
-  unfolding onward stands bind map_r
-  then_from (refused f p) = refl
-  then_from (ok a n) = drop_first (G s n)
-    where
-      drop_first : (m : Read B) → stands m ≡ stands {A = A × B} (map_r (λ b. (a, b)) m)
-      drop_first (ok b k) = refl
-      drop_first (refused f p) = refl
+  -- a record
+  module _ (k : ℕ) (F : Reader A) (make : A → B) (e : r ≡ stands (read_fields k s at)) where
+    pub record_out : {w : Refusal} → r ≡ Err w → Err w ≡ stands (record_of k F make s at)
+    unfolding record_of
+    record_out q = bound_out (read_fields k s at) _ e q
 
-  then_onward : (r : Step) → onward s (onward s r F) G ≡ onward s r (F then G)
-  unfolding onward ◌then◌
-  then_onward (step.To c) = then_from (F s c.at)
-  then_onward (step.Refused f p) = refl
-
-  pub then_read : (r : Step) {x y : Step} → x ≡ onward s r F → y ≡ onward s x G → y ≡ onward s r (F then G)
-  then_read r e q = q ∙ ap (λ (z : Step). onward s z G) e ∙ then_onward r
-
--- a record: its head, then its fields
-module _ {A B : Type 0} (s : List ℕ) (k : ℕ) (F : Reader A) (make : A → B) where
-  pub stands_map : (m : Read A) → stands m ≡ stands (map_r make m)
-  unfolding stands map_r
-  stands_map (ok a n) = refl
-  stands_map (refused f p) = refl
-
-  record_from : (m : Read (Unit {0})) → onward s (stands m) F ≡ stands (bind m λ _ n. map_r make (F s n))
-  unfolding onward stands bind
-  record_from (ok a n) = stands_map (F s n)
-  record_from (refused f p) = refl
-
-  record_onward : (r : Step) → onward s (onward s r (read_fields k)) F ≡ onward s r (record_of k F make)
-  unfolding onward record_of
-  record_onward (step.To c) = record_from (read_fields k s c.at)
-  record_onward (step.Refused f p) = refl
-
-  pub record_read : (r : Step) {x y : Step} → x ≡ onward s r (read_fields k) → y ≡ onward s x F → y ≡ onward s r (record_of k F make)
-  record_read r e q = q ∙ ap (λ (z : Step). onward s z F) e ∙ record_onward r
-
--- a list: its count, then its entries, one a turn; what remains decides
-module _ {A : Type 0} (s : List ℕ) (F : Reader A) where
-  list_from : (m : Read ℕ) → onward s (step_of (answer m)) (entries (value_of (answer m)) F) ≡ stands (bind m λ count n. entries count F s n)
-  unfolding onward step_of value_of answer bind stands
-  list_from (ok a n) = refl
-  list_from (refused f p) = refl
-
-  list_onward : (limit : ℕ) (r : Step) → onward s (step_of (answer_after s r (read_count limit))) (entries (value_of (answer_after s r (read_count limit))) F) ≡ onward s r (list_of limit F)
-  unfolding onward answer_after list_of step_of
-  list_onward limit (step.To c) = list_from (read_count limit s c.at)
-  list_onward limit (step.Refused f p) = refl
-
-  more_from : (k : ℕ) (m : Read A) → onward s (stands m) (entries k F) ≡ stands (bind m λ a n. map_r (λ l. a ∷ l) (entries k F s n))
-  unfolding onward stands bind
-  more_from k (ok a n) = stands_map s 0 (entries k F) (λ l. a ∷ l) (entries k F s n)
-  more_from k (refused f p) = refl
-
-  more_onward : (k : ℕ) (r : Step) → onward s (onward s r F) (entries k F) ≡ onward s r (entries (suc k) F)
-  unfolding onward entries
-  more_onward k (step.To c) = more_from k (F s c.at)
-  more_onward k (step.Refused f p) = refl
-
-  done_onward : (r : Step) → r ≡ onward s r (entries 0 F)
-  unfolding onward entries stands
-  done_onward (step.To c) = refl
-  done_onward (step.Refused f p) = refl
-
-  -- before turn i, what remains of n entries decides
-  abbrev pub Remains : ℕ → ℕ → Step → Step → Type 0
-  Remains n i r₀ r = onward s r (entries (n - i) F) ≡ onward s r₀ (entries n F)
-
-  pub list_start : (n : ℕ) (r : Step) → Remains n 0 r r
-  list_start n r = ap (λ (z : ℕ). onward s r (entries z F)) (sub-zero n)
-
-  pub list_turn : (n i : ℕ) (r₀ r : Step) {x : Step} → i < n → Remains n i r₀ r → x ≡ onward s r F → Remains n (i + 1) r₀ x
-  list_turn n i r₀ r {x} h q e =
-      let k : suc (n - (i + 1)) ≡ n - i = omega arith in
-      ap (λ (z : Step). onward s z (entries (n - (i + 1)) F)) e ∙ more_onward (n - (i + 1)) r ∙ ap (λ (z : ℕ). onward s r (entries z F)) k ∙ q
-
-  pub list_read : (limit n i : ℕ) (start r₀ r : Step) {a : Answer} → n ≤ i → Remains n i r₀ r → a ≡ answer_after s start (read_count limit) → n ≡ value_of a → r₀ ≡ step_of a → r ≡ onward s start (list_of limit F)
-  list_read limit n i start r₀ r {a} h q e v w =
-      let k : 0 ≡ n - i = omega arith in
-      done_onward r ∙ ap (λ (z : ℕ). onward s r (entries z F)) k ∙ q
-      ∙ ap (λ (z : ℕ). onward s r₀ (entries z F)) (v ∙ ap value_of e)
-      ∙ ap (λ (z : Step). onward s z (entries (value_of (answer_after s start (read_count limit))) F)) (w ∙ ap step_of e)
-      ∙ list_onward limit start
-
--- null, or an item
-module _ {A : Type 0} (s : List ℕ) (F : Reader A) where
-  null_past : (r : Step) {c : Cursor} → null_after s r ≡ null.Past c → step.To c ≡ onward s r (optional F)
-  unfolding null_after onward optional pick stands
-  null_past (step.To d) {c} e = by_test (eqb (get_or s d.at 0) 246) e
-    where
-      by_test : (b : Bool) → pick b (null.Past (record { at = d.at + 1 })) null.Not ≡ null.Past c → step.To c ≡ stands (pick b (ok none (d.at + 1)) (map_r some (F s d.at)))
-      by_test true q = let t : record { at = d.at + 1 } ≡ c = cc in ap (λ (z : Cursor). step.To z) (sym t)
-      by_test false q = no (cc)
-  null_past (step.Refused f p) {c} e = no (cc)
-
-  null_not : (r : Step) → null_after s r ≡ null.Not → onward s r F ≡ onward s r (optional F)
-  unfolding null_after onward optional pick stands
-  null_not (step.To d) e = by_test (eqb (get_or s d.at 0) 246) e
-    where
-      by_test : (b : Bool) → pick b (null.Past (record { at = d.at + 1 })) null.Not ≡ null.Not → stands (F s d.at) ≡ stands (pick b (ok none (d.at + 1)) (map_r some (F s d.at)))
-      by_test true q = no (cc)
-      by_test false q = stands_map s 0 F some (F s d.at)
-  null_not (step.Refused f p) e = refl
-
-  pub option_null : (r : Step) {n : Null} {c : Cursor} → n ≡ null_after s r → n ≡ null.Past c → step.To c ≡ onward s r (optional F)
-  option_null r e q = null_past r (sym e ∙ q)
-
-  pub option_some : (r : Step) {x : Step} {n : Null} → n ≡ null_after s r → n ≡ null.Not → x ≡ onward s r F → x ≡ onward s r (optional F)
-  option_some r e q h = h ∙ null_not r (sym e ∙ q)
+    pub record_on : {c : Cursor} {x : Result Cursor Refusal} → r ≡ Ok c → x ≡ stands (F s c.at) → x ≡ stands (record_of k F make s at)
+    unfolding record_of
+    record_on q h = bound_on (read_fields k s at) _ e q λ a. h ∙ sym (stands_map _ (F s _))
 
 -- a data enum: its head, then the fields of its case
-module _ {A : Type 0} (s : List ℕ) (cases : Cases A) where
-  case_from : (m : Read Tag) {t : Tag} {c : Cursor} → tagged_of m ≡ tagged.Case t c → stands (cases s t c.at) ≡ stands (bind m λ t n. cases s t n)
-  unfolding tagged_of bind
-  case_from (ok u n) {t} {c} e =
-      let x : u ≡ t = cc in
-      let y : record { at = n } ≡ c = cc in
-      λ i. stands (cases s (sym x i) (sym y i).at)
-  case_from (refused f p) e = no (cc)
+module _ {A : Type 0} (s : List ℕ) (at : ℕ) (cases : Cases A) {r : Result (Tag × Cursor) Refusal} (e : r ≡ answer (read_tag s at)) where
+  pub enum_out : {w : Refusal} → r ≡ Err w → Err w ≡ stands (enum_of cases s at)
+  unfolding enum_of bind stands
+  enum_out q = sym (ap (λ (z : Read Tag). stands (bind z λ t n. cases s t n)) (out _ e q))
 
-  out_from : (m : Read Tag) {f : Fault} {p : ℕ} → tagged_of m ≡ tagged.Refused f p → step.Refused f p ≡ stands (bind m λ t n. cases s t n)
-  unfolding tagged_of bind stands
-  out_from (ok u n) e = no (cc)
-  out_from (refused g q) {f} {p} e =
-      let x : f ≡ g = cc in
-      let y : p ≡ q = cc in
-      λ i. step.Refused (x i) (y i)
-
-  case_onward : (r : Step) {t : Tag} {c : Cursor} → tagged_after s r read_tag ≡ tagged.Case t c → stands (cases s t c.at) ≡ onward s r (enum_of cases)
-  unfolding tagged_after onward enum_of
-  case_onward (step.To d) e = case_from (read_tag s d.at) e
-  case_onward (step.Refused f p) e = no (cc)
-
-  out_onward : (r : Step) {f : Fault} {p : ℕ} → tagged_after s r read_tag ≡ tagged.Refused f p → step.Refused f p ≡ onward s r (enum_of cases)
-  unfolding tagged_after onward enum_of
-  out_onward (step.To d) e = out_from (read_tag s d.at) e
-  out_onward (step.Refused g q) {f} {p} e =
-      let x : f ≡ g = cc in
-      let y : p ≡ q = cc in
-      λ i. step.Refused (x i) (y i)
-
-  pub enum_read : (r : Step) {x : Step} {h : Tagged} {t : Tag} {c : Cursor} → h ≡ tagged_after s r read_tag → h ≡ tagged.Case t c → x ≡ stands (cases s t c.at) → x ≡ onward s r (enum_of cases)
-  enum_read r e q z = z ∙ case_onward r (sym e ∙ q)
-
-  pub enum_out : (r : Step) {h : Tagged} {f : Fault} {p : ℕ} → h ≡ tagged_after s r read_tag → h ≡ tagged.Refused f p → step.Refused f p ≡ onward s r (enum_of cases)
-  enum_out r e q = out_onward r (sym e ∙ q)
+  pub enum_on : {t : Tag} {c : Cursor} {x : Result Cursor Refusal} → r ≡ Ok (t, c) → x ≡ stands (cases s t c.at) → x ≡ stands (enum_of cases s at)
+  unfolding enum_of bind
+  enum_on q h = h ∙ sym (ap (λ (z : Read Tag). stands (bind z λ t n. cases s t n)) (got _ e q))
 
 -- a case's fields after its number: the array has as many items as are due
-module _ {A : Type 0} (s : List ℕ) (F : Reader A) (t : Tag) (due n : ℕ) where
-  sized_from : (b : Bool) → onward s (stands (pick b (ok (tt {0}) n) (refused Unexpected t.start))) F ≡ stands (pick b (F s n) (refused Unexpected t.start))
-  unfolding pick stands onward
-  sized_from true = refl
-  sized_from false = refl
+module _ {A : Type 0} (s : List ℕ) (t : Tag) (due n : ℕ) (F : Reader A) {r : Result Cursor Refusal} (e : r ≡ stands (sized t due (ok (tt {0}) n))) where
+  pub sized_out : {w : Refusal} → r ≡ Err w → Err w ≡ stands (sized t due (F s n))
+  unfolding sized pick stands
+  sized_out {w} q = by_count (eqb t.count due) (sym q ∙ e)
+    where
+      by_count : (b : Bool) → Err w ≡ stands (pick b (ok (tt {0}) n) (refused Unexpected t.start)) → Err w ≡ stands (pick b (F s n) (refused Unexpected t.start))
+      by_count true h = no (cc)
+      by_count false h = h
 
-  pub sized_read : {r x : Step} → r ≡ stands (sized t due (ok (tt {0}) n)) → x ≡ onward s r F → x ≡ stands (sized t due (F s n))
-  unfolding sized
-  sized_read e q = q ∙ ap (λ (z : Step). onward s z F) e ∙ sized_from (eqb t.count due)
+  pub sized_on : {c : Cursor} {x : Result Cursor Refusal} → r ≡ Ok c → x ≡ stands (F s c.at) → x ≡ stands (sized t due (F s n))
+  unfolding sized pick stands
+  sized_on {c} {x} q f = by_count (eqb t.count due) (sym q ∙ e)
+    where
+      by_count : (b : Bool) → Ok c ≡ stands (pick b (ok (tt {0}) n) (refused Unexpected t.start)) → x ≡ stands (pick b (F s n) (refused Unexpected t.start))
+      by_count true h = let k : c ≡ record { at = n } = cc in f ∙ ap (λ (z : Cursor). stands (F s z.at)) k
+      by_count false h = no (cc)
+
+-- lists, and what may be null, by where their items end
+module _ {A : Type 0} (F : Reader A) where
+  abbrev ends : Ends
+  ends s at = stands (F s at)
+
+  entry_on : (k : ℕ) (s : List ℕ) (m : Read A) → ((n : ℕ) → entries_end k ends s n ≡ stands (entries k F s n)) → and_then (stands m) (λ c. entries_end k ends s c.at) ≡ stands (bind m λ a n. map_r (λ l. a ∷ l) (entries k F s n))
+  unfolding stands and_then bind
+  entry_on k s (ok a n) h = h n ∙ sym (stands_map _ (entries k F s n))
+  entry_on k s (refused f p) h = refl
+
+  entries_stand : (k : ℕ) (s : List ℕ) (at : ℕ) → entries_end k ends s at ≡ stands (entries k F s at)
+  unfolding entries_end entries stands
+  entries_stand zero s at = refl
+  entries_stand (suc k) s at = entry_on k s (F s at) (entries_stand k s)
+
+  pub list_stands : (limit : ℕ) (s : List ℕ) (at : ℕ) {r : Result Cursor Refusal} → r ≡ list_ends limit ends s at → r ≡ stands (list_of limit F s at)
+  unfolding list_ends list_of answer list_from bind stands
+  list_stands limit s at e = e ∙ by_count (read_count limit s at)
+    where
+      by_count : (m : Read ℕ) → list_from (answer m) ends s ≡ stands (bind m λ count n. entries count F s n)
+      by_count (ok k n) = entries_stand k s n
+      by_count (refused f p) = refl
+
+  pub optional_stands : (s : List ℕ) (at : ℕ) {r : Result Cursor Refusal} → r ≡ optional_ends ends s at → r ≡ stands (optional F s at)
+  unfolding optional_ends optional past_null optional_from pick stands
+  optional_stands s at e = e ∙ by_null (eqb (get_or s at 0) 246)
+    where
+      by_null : (b : Bool) → optional_from (pick b (Some (record { at = at + 1 })) None) (stands (F s at)) ≡ stands (pick b (ok none (at + 1)) (map_r some (F s at)))
+      by_null true = refl
+      by_null false = sym (stands_map some (F s at))
+
+  pub one_stands : (t : Tag) (s : List ℕ) (at : ℕ) {r : Result Cursor Refusal} → r ≡ one_ends ends t s at → r ≡ stands (sized t 2 (F s at))
+  unfolding one_ends sized pick stands and_then
+  one_stands t s at e = e ∙ by_count (eqb t.count 2)
+    where
+      by_count : (b : Bool) → and_then (stands (pick b (ok (tt {0}) at) (refused Unexpected t.start))) (λ c. stands (F s c.at)) ≡ stands (pick b (F s at) (refused Unexpected t.start))
+      by_count true = refl
+      by_count false = refl

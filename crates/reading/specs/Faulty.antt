@@ -2,7 +2,8 @@
 use Rattle.std.specs.Prelude.{ℕ, ◌+◌, ◌-◌, ◌/◌, ◌%◌, ◌<◌, ◌≤◌, ◌≡◌, List, Bool, false, ◌⊎◌, length, get_or, take, drop}
 use Rattle.reading.specs.Read.{ok}
 use Rattle.reading.specs.Limits.{max_text}
-use Rattle.reading.specs.Head.{be1, be2, be4, be8, Hd, read_head}
+use Rattle.reading.specs.Head.{be1, be2, be4, be8, read_head}
+use Rattle.reading.specs.declared.cursor.Head.{Head}
 use Rattle.reading.specs.Item.{read_kind}
 use Rattle.reading.specs.Text.{all}
 use Rattle.reading.specs.declared.fault.Fault.{Fault}
@@ -33,7 +34,7 @@ pub data HeadFault (s : List ℕ) (at : ℕ) : Fault → Type 0 where
 -- of an item whose kind is due
 pub data KindFault (due : ℕ) (s : List ℕ) (at : ℕ) : Fault → Type 0 where
   no_head : {f : Fault} → HeadFault s at f → KindFault due s at f
-  other_kind : {h : Hd} {n : ℕ} → read_head s at ≡ ok h n → (h.major ≡ due → ⊥) → KindFault due s at Unexpected
+  other_kind : {h : Head} {n : ℕ} → read_head s at ≡ ok h n → (h.major ≡ due → ⊥) → KindFault due s at Unexpected
 
 -- of an item whose number has to pass a test: it has the fault g where it is bad
 pub data ItemFault (due : ℕ) (Bad : ℕ → Type 0) (g : Fault) (s : List ℕ) (at : ℕ) : Fault → Type 0 where

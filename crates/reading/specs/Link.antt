@@ -1,88 +1,83 @@
 -- What the code answers, for what reading gives; and what document 01 says of each answer: number and place.
-use Rattle.std.specs.Prelude.{ℕ, ◌+◌, List, Bool, true, false, get_or, eqb}
-use Rattle.reading.specs.Read.{Read, Reader, ok, refused, pick}
+use Rattle.std.specs.Prelude.{ℕ, zero, suc, ◌+◌, List, Bool, get_or, eqb, Option, Some, None, Result, Ok, Err}
+use Rattle.reading.specs.Read.{Read, ok, refused, pick}
 use Rattle.reading.specs.Fault.{number}
-use Rattle.reading.specs.Head.{Hd}
+use Rattle.reading.specs.Item.{read_count}
+use Rattle.reading.specs.Combine.{sized}
 use Rattle.reading.specs.Text.{name_byte, version_byte}
-use Rattle.reading.specs.declared.fault.Fault.TheVariants.{TooDeep}
-use Rattle.reading.specs.declared.cursor.Head.{Head}
-use Rattle.reading.specs.declared.cursor.Head.TheVariants as head
-use Rattle.reading.specs.declared.item.Answer.{Answer}
-use Rattle.reading.specs.declared.item.Answer.TheVariants.{Got, Refused}
+use Rattle.reading.specs.declared.cursor.Cursor.{Cursor}
+use Rattle.reading.specs.declared.fault.Fault.{Fault}
+use Rattle.reading.specs.declared.fault.Refusal.{Refusal}
 use Rattle.reading.specs.declared.item.Tag.{Tag}
-use Rattle.reading.specs.declared.item.Tagged.{Tagged}
-use Rattle.reading.specs.declared.item.Tagged.TheVariants as tagged
-use Rattle.reading.specs.declared.step.Step.{Step}
-use Rattle.reading.specs.declared.step.Step.TheVariants as step
-use Rattle.reading.specs.declared.step.Null.{Null}
-use Rattle.reading.specs.declared.step.Null.TheVariants as null
 use Rattle.reading.specs.declared.text.Text.{Text}
 use Rattle.reading.specs.declared.text.Text.TheVariants as text
-use Rattle.reading.specs.declared.Verdict.{Verdict}
-use Rattle.reading.specs.declared.Verdict.TheVariants.{Accepted}
-use Rattle.reading.specs.declared.Verdict.TheVariants as verdicts
 
--- a head
-unfoldable pub head_of : Read Hd → Head
-head_of (ok h n) = head.Item h.major h.argument (record { at = n })
-head_of (refused f p) = head.Refused f p
+-- a fault at a place
+abbrev pub refusal : Fault → ℕ → Refusal
+refusal f p = record { fault = f; place = p }
 
--- an item with a number
-unfoldable pub answer : Read ℕ → Answer
-answer (ok v n) = Got v (record { at = n })
-answer (refused f p) = Refused f p
+module _ {A : Type 0} where
+  -- what is read, and the cursor after it
+  unfoldable pub answer : Read A → Result (A × Cursor) Refusal
+  answer (ok a n) = Ok (a, record { at = n })
+  answer (refused f p) = Err (refusal f p)
 
--- the head of a data enum
-unfoldable pub tagged_of : Read Tag → Tagged
-tagged_of (ok t n) = tagged.Case t (record { at = n })
-tagged_of (refused f p) = tagged.Refused f p
+  -- where it ends alone
+  unfoldable pub stands : Read A → Result Cursor Refusal
+  stands (ok a n) = Ok (record { at = n })
+  stands (refused f p) = Err (refusal f p)
 
--- any other item: where it ends
-unfoldable pub stands : {A : Type 0} → Read A → Step
-stands (ok a n) = step.To (record { at = n })
-stands (refused f p) = step.Refused f p
-
--- what is read next, after a step
-unfoldable pub onward : {A : Type 0} → List ℕ → Step → Reader A → Step
-onward s (step.To c) F = stands (F s c.at)
-onward s (step.Refused f p) F = step.Refused f p
-
--- a whole document
-unfoldable pub verdict : {A : Type 0} → Read A → Verdict
-verdict (ok a n) = Accepted
-verdict (refused f p) = verdicts.Refused f p
+  -- a whole document
+  unfoldable pub verdict : Read A → Result (Unit {0}) Refusal
+  verdict (ok a n) = Ok tt
+  verdict (refused f p) = Err (refusal f p)
 
 -- document 01's number of a verdict, 0 where it accepts, and its place
-unfoldable pub number_of : Verdict → ℕ
-number_of Accepted = 0
-number_of (verdicts.Refused f p) = number f
+unfoldable pub number_of : Result (Unit {0}) Refusal → ℕ
+number_of (Ok u) = 0
+number_of (Err r) = number r.fault
 
-unfoldable pub place_of : Verdict → ℕ
-place_of Accepted = 0
-place_of (verdicts.Refused f p) = p
+unfoldable pub place_of : Result (Unit {0}) Refusal → ℕ
+place_of (Ok u) = 0
+place_of (Err r) = r.place
 
--- the parts of an answer with a number
-unfoldable pub value_of : Answer → ℕ
-value_of (Got v c) = v
-value_of (Refused f p) = 0
+-- where an item of a kind ends
+abbrev pub Ends : Type 0
+Ends = List ℕ → ℕ → Result Cursor Refusal
 
-unfoldable pub step_of : Answer → Step
-step_of (Got v c) = step.To c
-step_of (Refused f p) = step.Refused f p
+-- on from a cursor, if there is one
+unfoldable pub and_then : Result Cursor Refusal → (Cursor → Result Cursor Refusal) → Result Cursor Refusal
+and_then (Ok c) k = k c
+and_then (Err r) k = Err r
 
--- the same of what is read after a step
-unfoldable pub answer_after : List ℕ → Step → Reader ℕ → Answer
-answer_after s (step.To c) F = answer (F s c.at)
-answer_after s (step.Refused f p) F = Refused f p
+-- as many items of a kind
+unfoldable pub entries_end : ℕ → Ends → Ends
+entries_end zero e s at = Ok (record { at = at })
+entries_end (suc n) e s at = and_then (e s at) λ c. entries_end n e s c.at
 
-unfoldable pub tagged_after : List ℕ → Step → Reader Tag → Tagged
-tagged_after s (step.To c) F = tagged_of (F s c.at)
-tagged_after s (step.Refused f p) F = tagged.Refused f p
+-- a list of at most limit of them
+unfoldable pub list_from : Result (ℕ × Cursor) Refusal → Ends → List ℕ → Result Cursor Refusal
+list_from (Ok p) e s = entries_end p.0 e s p.1.at
+list_from (Err r) e s = Err r
 
--- a bool as a number
-unfoldable pub bit : Bool → ℕ
-bit false = 0
-bit true = 1
+unfoldable pub list_ends : ℕ → Ends → Ends
+list_ends limit e s at = list_from (answer (read_count limit s at)) e s
+
+-- past null, if it stands there
+unfoldable pub past_null : List ℕ → ℕ → Option Cursor
+past_null s at = pick (eqb (get_or s at 0) 246) (Some (record { at = at + 1 })) None
+
+-- so, or past an item
+unfoldable pub optional_from : Option Cursor → Result Cursor Refusal → Result Cursor Refusal
+optional_from (Some c) r = Ok c
+optional_from None r = r
+
+unfoldable pub optional_ends : Ends → Ends
+optional_ends e s at = optional_from (past_null s at) (e s at)
+
+-- an item, after the case number of an array of two items
+unfoldable pub one_ends : Ends → Tag → Ends
+one_ends e t s at = and_then (stands (sized t 2 (ok (tt {0}) at))) λ c. e s c.at
 
 -- a name has a byte at least
 unfoldable pub least_of : Text → ℕ
@@ -92,13 +87,3 @@ least_of text.Version = 0
 unfoldable pub alphabet_of : Text → ℕ → Bool
 alphabet_of text.Name = name_byte
 alphabet_of text.Version = version_byte
-
--- whether null stands after a step
-unfoldable pub null_after : List ℕ → Step → Null
-null_after s (step.To c) = pick (eqb (get_or s c.at 0) 246) (null.Past (record { at = c.at + 1 })) null.Not
-null_after s (step.Refused f p) = null.Not
-
--- no level is left after a step
-unfoldable pub deep : Step → Step
-deep (step.To c) = step.Refused TooDeep c.at
-deep (step.Refused f p) = step.Refused f p

@@ -1,10 +1,8 @@
 -- What the code tests before it reads a whole head, or looks a byte up in an alphabet: shortcuts, each shown to lead to the same answer.
-use Rattle.std.specs.Prelude.{ℕ, ◌+◌, ◌-◌, ◌*◌, ◌≤◌, ◌≡◌, List, [], ◌∷◌, Bool, false, length, eqb, ltb}
+use Rattle.std.specs.Prelude.{ℕ, ◌+◌, ◌-◌, ◌*◌, ◌≤◌, ◌≡◌, List, [], ◌∷◌, Bool, false, length, eqb, ltb, Option, Some, None}
 use Rattle.reading.specs.Read.{ok, pick}
 use Rattle.reading.specs.Skip.{skip_head}
 use Rattle.reading.specs.declared.cursor.Cursor.{Cursor}
-use Rattle.reading.specs.declared.walk.Short.{Short}
-use Rattle.reading.specs.declared.walk.Short.TheVariants.{Past, Longer}
 
 -- the first byte of a head that is that byte alone, of the major type that is due
 unfoldable pub is_one_byte : ℕ → ℕ → Bool
@@ -36,6 +34,6 @@ pub record Passes (more : ℕ) (s : List ℕ) (at items : ℕ) (c : Cursor) : Ty
   pub room : c.at + items ≤ length s
 
 -- the same of what the code answers, where it is past it
-unfoldable pub Passed : ℕ → List ℕ → ℕ → Short → Type 0
-Passed more s at (Past items c) = Passes more s at items c
-Passed more s at Longer = Unit {0}
+unfoldable pub Passed : ℕ → List ℕ → ℕ → Option (ℕ × Cursor) → Type 0
+Passed more s at (Some p) = Passes more s at p.0 p.1
+Passed more s at None = Unit {0}

@@ -1,5 +1,9 @@
-// Why bytes are refused, in the order of document 01's table; its desk word stands behind each.
-#[derive(Clone, Copy)]
+// Why bytes are refused, and where.
+ghost use Rattle.std.specs.Prelude.{◌≡◌};
+ghost use Rattle.reading.specs.Link.{refusal};
+
+// The reasons, in the order of document 01's table; its desk word stands behind each.
+#[derive(Clone, Copy, Debug, PartialEq, Eq)]
 pub enum Fault {
     // 1, bulky: the document is over 65,535 bytes long.
     TooLong,
@@ -19,4 +23,19 @@ pub enum Fault {
     Trailing,
     // 9, unborn: ir_version over 1.
     UnknownVersion,
+}
+
+// A fault, and the place in the document that it is found at.
+#[derive(Clone, Copy, Debug, PartialEq, Eq)]
+pub struct Refusal {
+    pub fault: Fault,
+    pub place: usize,
+}
+
+impl Fault {
+    pub(crate) fn at(self, place: usize) -> Refusal
+        ensures { result ≡ refusal self place }
+    {
+        Refusal { fault: self, place }
+    }
 }

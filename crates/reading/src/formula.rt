@@ -4,79 +4,63 @@ ghost use Rattle.reading.specs.Limits.{max_u64};
 ghost use Rattle.reading.specs.Item.{read_number};
 ghost use Rattle.reading.specs.Combine.{◌then◌, sized};
 ghost use Rattle.reading.specs.Expr.{read_expr};
-ghost use Rattle.reading.specs.Pattern.{read_pattern};
 ghost use Rattle.reading.specs.Formula.{read_formula, formula_cases};
-ghost use Rattle.reading.specs.Link.{stands, onward};
+ghost use Rattle.reading.specs.Link.{stands};
 
 use crate::cursor::Cursor;
-use crate::fault::Fault;
-use crate::item::{Tag, Tagged};
-use crate::limits;
-use crate::step::Step;
+use crate::fault::{Fault, Refusal};
+use crate::item::Tag;
+use crate::list::U64;
+use crate::pattern::Pattern;
 
-impl Step {
+impl Cursor {
     // A formula at whose start as many levels are left.
     #[cycle(bound_and_formula_formula_case_one_formula_two_formulas_formula)]
-    pub(crate) fn formula(self, doc: &[u8], left: u64) -> Step
-        ensures { result ≡ onward doc.now self (read_formula left) }
+    pub(crate) fn formula(self, doc: &[u8], left: u64) -> Result<Cursor, Refusal>
+        ensures { result ≡ stands (read_formula left doc.now self.at) }
     {
         if left == 0 {
-            return self.too_deep();
+            return Err(Fault::TooDeep.at(self.at));
         }
-        let t = self.tag(doc);
-        match t {
-            Tagged::Case(tag, next) => next.formula_case(doc, tag, left - 1),
-            Tagged::Refused(fault, place) => Step::Refused(fault, place),
-        }
-    }
-}
-
-// The shapes of a formula's cases; what is inside has as many levels left.
-impl Cursor {
-    fn one_pattern(self, doc: &[u8], tag: Tag) -> Step
-        ensures { result ≡ stands (sized tag 2 (read_pattern doc.now self.at)) }
-    {
-        self.sized(tag, 2).pattern(doc)
+        let (tag, next) = self.tag(doc)?;
+        next.formula_case(doc, tag, left - 1)
     }
 
-    fn one_expr(self, doc: &[u8], tag: Tag, left: u64) -> Step
+    fn one_expr(self, doc: &[u8], tag: Tag, left: u64) -> Result<Cursor, Refusal>
         ensures { result ≡ stands (sized tag 2 (read_expr left doc.now self.at)) }
     {
-        self.sized(tag, 2).expr(doc, left)
+        self.sized(tag, 2)?.expr(doc, left)
     }
 
     #[cycle(bound_and_formula_formula_case_one_formula_two_formulas_formula)]
-    fn one_formula(self, doc: &[u8], tag: Tag, left: u64) -> Step
+    fn one_formula(self, doc: &[u8], tag: Tag, left: u64) -> Result<Cursor, Refusal>
         ensures { result ≡ stands (sized tag 2 (read_formula left doc.now self.at)) }
     {
-        self.sized(tag, 2).formula(doc, left)
+        self.sized(tag, 2)?.formula(doc, left)
     }
 
     #[cycle(bound_and_formula_formula_case_one_formula_two_formulas_formula)]
-    fn two_formulas(self, doc: &[u8], tag: Tag, left: u64) -> Step
+    fn two_formulas(self, doc: &[u8], tag: Tag, left: u64) -> Result<Cursor, Refusal>
         ensures { result ≡ stands (sized tag 3 ((read_formula left then read_formula left) doc.now self.at)) }
     {
-        self.sized(tag, 3).formula(doc, left).formula(doc, left)
+        self.sized(tag, 3)?.formula(doc, left)?.formula(doc, left)
     }
 
     #[cycle(bound_and_formula_formula_case_one_formula_two_formulas_formula)]
-    fn bound_and_formula(self, doc: &[u8], tag: Tag, left: u64) -> Step
+    fn bound_and_formula(self, doc: &[u8], tag: Tag, left: u64) -> Result<Cursor, Refusal>
         ensures { result ≡ stands (sized tag 3 ((read_number max_u64 then read_formula left) doc.now self.at)) }
     {
-        self.sized(tag, 3)
-            .number(doc, limits::U64)
-            .formula(doc, left)
+        self.sized(tag, 3)?.past::<U64>(doc)?.formula(doc, left)
     }
 
-    // The fields of a formula's case.
+    // The fields of a formula's case, a row of `formula_cases` each; what is inside has as many levels left.
     #[cycle(bound_and_formula_formula_case_one_formula_two_formulas_formula)]
-    pub(crate) fn formula_case(self, doc: &[u8], tag: Tag, left: u64) -> Step
+    fn formula_case(self, doc: &[u8], tag: Tag, left: u64) -> Result<Cursor, Refusal>
         ensures { result ≡ stands (formula_cases (read_formula left) (read_expr left) doc.now tag self.at) }
     {
-        let case = tag.case;
-        match case {
-            0 => self.one_pattern(doc, tag),
-            1 => self.one_pattern(doc, tag),
+        match tag.case {
+            0 => self.one::<Pattern>(doc, tag),
+            1 => self.one::<Pattern>(doc, tag),
             2 => self.one_expr(doc, tag, left),
             3 => self.one_formula(doc, tag, left),
             4 => self.two_formulas(doc, tag, left),
@@ -88,7 +72,7 @@ impl Cursor {
             10 => self.bound_and_formula(doc, tag, left),
             11 => self.one_formula(doc, tag, left),
             12 => self.two_formulas(doc, tag, left),
-            13..=18446744073709551615 => Step::Refused(Fault::Unexpected, tag.place),
+            13..=u64::MAX => Err(Fault::Unexpected.at(tag.place)),
         }
     }
 }

@@ -9,9 +9,9 @@ pub const LIST: u64 = 255;
 
 pub const TEXT: u64 = 64;
 
-pub const U32: u64 = 4294967295;
+pub const U32: u64 = u32::MAX as u64;
 
-pub const U64: u64 = 18446744073709551615;
+pub const U64: u64 = u64::MAX;
 
 pub const DEPTH: u64 = 32;
 

@@ -1,94 +1,80 @@
 // Properties, modules, and all of a document's content.
 ghost use Rattle.std.specs.Prelude.{◌≡◌};
-ghost use Rattle.reading.specs.Limits.{max_list, max_modules};
-ghost use Rattle.reading.specs.Combine.{list_of};
 ghost use Rattle.reading.specs.Module.{read_property, read_module, read_ir};
-ghost use Rattle.reading.specs.Link.{onward};
+ghost use Rattle.reading.specs.Link.{stands};
 
+use crate::cursor::Cursor;
+use crate::decl::{ConstructorGroup, EnumDecl, VarDecl};
+use crate::fault::Refusal;
 use crate::limits;
-use crate::step::Step;
+use crate::list::{IrVersion, Item, Name, Version};
+use crate::transition::{OnError, Transition};
 
-#[derive(Clone, Copy)]
-pub struct Property {}
+// A property or an assumption.
+pub(crate) struct Property {}
 
 impl Property {
-    pub const FIELDS: u64 = 2;
+    pub(crate) const FIELDS: u64 = 2;
 }
 
-#[derive(Clone, Copy)]
-pub struct Module {}
+impl Item for Property {
+    ghost ends = { λ s at. stands (read_property s at) };
 
-impl Module {
-    pub const FIELDS: u64 = 11;
-}
-
-#[derive(Clone, Copy)]
-pub struct Ir {}
-
-impl Ir {
-    pub const FIELDS: u64 = 2;
-}
-
-impl Step {
-    pub(crate) fn property(self, doc: &[u8]) -> Step
-        ensures value { result ≡ onward doc.now self read_property }
+    fn pass(c: Cursor, doc: &[u8]) -> Result<Cursor, Refusal>
+        ensures value { result ≡ stands (read_property doc.now c.at) }
         ensures fields { Property.FIELDS ≡ 2 }
     {
-        self.fields(doc, Property::FIELDS)
-            .name(doc)
+        c.fields(doc, Property::FIELDS)?
+            .past::<Name>(doc)?
             .formula(doc, limits::DEPTH)
     }
+}
 
-    pub(crate) fn properties(self, doc: &[u8]) -> Step
-        ensures { result ≡ onward doc.now self (list_of max_list read_property) }
-    {
-        let counted = self.count(doc, limits::LIST);
-        let n = counted.value();
-        let mut r = counted.step();
-        let mut i: u64 = 0;
-        while i < n {
-            r = r.property(doc);
-            i += 1;
-        }
-        r
-    }
+// A module.
+pub(crate) struct Module {}
 
-    pub(crate) fn module(self, doc: &[u8]) -> Step
-        ensures value { result ≡ onward doc.now self read_module }
+impl Module {
+    pub(crate) const FIELDS: u64 = 11;
+}
+
+impl Item for Module {
+    ghost ends = { λ s at. stands (read_module s at) };
+
+    fn pass(c: Cursor, doc: &[u8]) -> Result<Cursor, Refusal>
+        ensures value { result ≡ stands (read_module doc.now c.at) }
         ensures fields { Module.FIELDS ≡ 11 }
     {
-        self.fields(doc, Module::FIELDS)
-            .name(doc)
-            .optional_version(doc)
-            .optional_on_error(doc)
-            .enum_decls(doc)
-            .optional_name(doc)
-            .constructor_groups(doc)
-            .constructor_groups(doc)
-            .var_decls(doc)
-            .transitions(doc)
-            .properties(doc)
-            .properties(doc)
+        c.fields(doc, Module::FIELDS)?
+            .past::<Name>(doc)?
+            .optional::<Version>(doc)?
+            .optional::<OnError>(doc)?
+            .list::<EnumDecl>(doc, limits::LIST)?
+            .optional::<Name>(doc)?
+            .list::<ConstructorGroup>(doc, limits::LIST)?
+            .list::<ConstructorGroup>(doc, limits::LIST)?
+            .list::<VarDecl>(doc, limits::LIST)?
+            .list::<Transition>(doc, limits::LIST)?
+            .list::<Property>(doc, limits::LIST)?
+            .list::<Property>(doc, limits::LIST)
     }
+}
 
-    pub(crate) fn modules(self, doc: &[u8]) -> Step
-        ensures { result ≡ onward doc.now self (list_of max_modules read_module) }
-    {
-        let counted = self.count(doc, limits::MODULES);
-        let n = counted.value();
-        let mut r = counted.step();
-        let mut i: u64 = 0;
-        while i < n {
-            r = r.module(doc);
-            i += 1;
-        }
-        r
-    }
+// A document.
+pub(crate) struct Ir {}
 
-    pub(crate) fn ir(self, doc: &[u8]) -> Step
-        ensures value { result ≡ onward doc.now self read_ir }
+impl Ir {
+    pub(crate) const FIELDS: u64 = 2;
+}
+
+impl Item for Ir {
+    ghost ends = { λ s at. stands (read_ir s at) };
+
+    fn pass(c: Cursor, doc: &[u8]) -> Result<Cursor, Refusal>
+        ensures value { result ≡ stands (read_ir doc.now c.at) }
         ensures fields { Ir.FIELDS ≡ 2 }
     {
-        self.fields(doc, Ir::FIELDS).ir_version(doc).modules(doc)
+        c.fields(doc, Ir::FIELDS)?
+            .past::<IrVersion>(doc)?
+            .list::<Module>(doc, limits::MODULES)
     }
 }

@@ -1,13 +1,13 @@
 // The head reader as one value: the lent document together with an offset.
 //
-// It advances by handing back a new one. An enum holds no reader, so a head holds a cursor, and `moved` takes it.
+// It advances by handing back a new one: a head comes with the cursor after it, which `moved` takes.
 ghost use Rattle.std.specs.Prelude.{◌≡◌};
 ghost use Rattle.reading.specs.Head.{read_head};
-ghost use Rattle.reading.specs.Link.{head_of};
+ghost use Rattle.reading.specs.Link.{answer};
 
-use crate::cursor::{Cursor, Head, head_at};
+use crate::cursor::{Answer, Cursor, Head, head_at};
 
-#[derive(Clone, Copy)]
+#[derive(Clone, Copy, Debug, PartialEq, Eq)]
 pub struct Reader<'a> {
     pub doc: &'a [u8],
     pub at: usize,
@@ -22,8 +22,8 @@ impl<'a> Reader<'a> {
     }
 
     // The head at the offset.
-    pub fn head(self) -> Head
-        ensures { result ≡ head_of (read_head self.entry.doc.now self.entry.at) }
+    pub fn head(self) -> Answer<Head>
+        ensures { result ≡ answer (read_head self.entry.doc.now self.entry.at) }
     {
         head_at(self.doc, self.at)
     }
@@ -40,8 +40,8 @@ impl<'a> Reader<'a> {
 }
 
 // The head at any place, through a reader.
-pub fn head_from(doc: &[u8], at: usize) -> Head
-    ensures { result ≡ head_of (read_head doc.now at) }
+pub fn head_from(doc: &[u8], at: usize) -> Answer<Head>
+    ensures { result ≡ answer (read_head doc.now at) }
 {
     Reader::new(doc, at).head()
 }

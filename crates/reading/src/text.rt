@@ -1,17 +1,16 @@
 // Names and version strings.
-ghost use Rattle.std.specs.Prelude.{◌≡◌, ◌≤◌, length, ltb};
+ghost use Rattle.std.specs.Prelude.{◌≡◌, ◌≤◌, ℕ, Bool, length, ltb};
 ghost use Rattle.reading.specs.Read.{map_r, pick};
 ghost use Rattle.reading.specs.Text.{all, name_byte, version_byte, text_bytes, read_text, read_name};
 ghost use Rattle.reading.specs.Link.{answer, least_of, alphabet_of};
 ghost use Rattle.reading.specs.Short.{name_row, name_head, tally, count};
 
-use crate::cursor::Cursor;
+use crate::cursor::{Answer, Cursor};
 use crate::fault::Fault;
-use crate::item::Answer;
 use crate::limits;
 
 // What a string is: a name has a byte at least, and a narrower alphabet.
-#[derive(Clone, Copy)]
+#[derive(Clone, Copy, Debug, PartialEq, Eq)]
 pub enum Text {
     Name,
     Version,
@@ -29,22 +28,35 @@ fn name_row(row: u8) -> u32
     }
 }
 
-// An ASCII letter, digit or underscore.
-fn name_byte(b: u8) -> bool
-    ensures { result ≡ name_byte b }
-{
-    let row = name_row(b / 32);
-    let k = (b % 32) as u32;
-    (row >> k) % 2 == 1
+// The bytes that may stand in a string.
+pub(crate) trait Alphabet {
+    ghost holds: { ℕ → Bool };
+
+    fn has(b: u8) -> bool
+        ensures { result ≡ holds b };
 }
 
-// A printing ASCII character, or a space.
-fn version_byte(b: u8) -> bool
-    ensures { result ≡ version_byte b }
-{
-    match b {
-        32..=126 => true,
-        _ => false,
+// ASCII letters, digits and the underscore.
+pub(crate) struct NameBytes {}
+
+impl Alphabet for NameBytes {
+    ghost holds = { name_byte };
+
+    fn has(b: u8) -> bool {
+        let row = name_row(b / 32);
+        let k = (b % 32) as u32;
+        (row >> k) % 2 == 1
+    }
+}
+
+// Printing ASCII characters, and the space.
+pub(crate) struct VersionBytes {}
+
+impl Alphabet for VersionBytes {
+    ghost holds = { version_byte };
+
+    fn has(b: u8) -> bool {
+        matches!(b, 32..=126)
     }
 }
 
@@ -57,28 +69,12 @@ fn least(text: Text) -> u64
     }
 }
 
-fn all_name_bytes(bytes: &[u8]) -> bool
-    ensures { result ≡ all name_byte bytes.now }
+// Whether all bytes are of the alphabet.
+fn all_of<A: Alphabet>(bytes: &[u8]) -> bool
+    ensures { result ≡ all A.holds bytes.now }
 {
-    let mut i = 0;
-    while i < bytes.len() {
-        if name_byte(bytes[i]) {
-            i += 1;
-        } else {
-            return false;
-        }
-    }
-    true
-}
-
-fn all_version_bytes(bytes: &[u8]) -> bool
-    ensures { result ≡ all version_byte bytes.now }
-{
-    let mut i = 0;
-    while i < bytes.len() {
-        if version_byte(bytes[i]) {
-            i += 1;
-        } else {
+    for b in bytes {
+        if !A::has(*b) {
             return false;
         }
     }
@@ -113,20 +109,18 @@ fn count_name_bytes(bytes: &[u8]) -> u8
     ensures { result ≡ count name_byte bytes.now }
 {
     let mut n: u8 = 0;
-    let mut i = 0;
-    while i < bytes.len() {
-        n += name_tally(bytes[i]);
-        i += 1;
+    for b in bytes {
+        n += name_tally(*b);
     }
     n
 }
 
-// The same as `all_name_bytes`, by counting: for the longer names.
+// The same as `all_of`, by counting: for the longer names.
 fn all_counted(bytes: &[u8]) -> bool
     ensures { result ≡ all name_byte bytes.now }
 {
     if 255 < bytes.len() {
-        return all_name_bytes(bytes);
+        return all_of::<NameBytes>(bytes);
     }
     count_name_bytes(bytes) as usize == bytes.len()
 }
@@ -136,7 +130,7 @@ fn all_in_alphabet(text: Text, bytes: &[u8]) -> bool
 {
     match text {
         Text::Name => all_counted(bytes),
-        Text::Version => all_version_bytes(bytes),
+        Text::Version => all_of::<VersionBytes>(bytes),
     }
 }
 
@@ -144,30 +138,27 @@ fn all_in_alphabet(text: Text, bytes: &[u8]) -> bool
 fn name_head(b: u8) -> bool
     ensures { result ≡ name_head b }
 {
-    match b {
-        97..=119 => true,
-        _ => false,
-    }
+    matches!(b, 97..=119)
 }
 
 // The bytes of a string whose head stands at `at` and is read.
-fn text_bytes(doc: &[u8], text: Text, at: usize, len: usize, from: usize) -> Answer
+fn text_bytes(doc: &[u8], text: Text, at: usize, len: usize, from: usize) -> Answer<u64>
     requires { from ≤ length doc.now }
     ensures { result ≡ answer (map_r length (text_bytes (alphabet_of text) doc.now at len from)) }
 {
     if doc.len() - from < len {
-        return Answer::Refused(Fault::Truncated, at);
+        return Err(Fault::Truncated.at(at));
     }
     let end = from + len;
     if all_in_alphabet(text, &doc[from..end]) {
-        return Answer::Got(len as u64, Cursor { at: end });
+        return Ok((len as u64, Cursor { at: end }));
     }
-    Answer::Refused(Fault::OutsideAlphabet, at)
+    Err(Fault::OutsideAlphabet.at(at))
 }
 
 impl Cursor {
     // A name: its length, and the cursor after it. Mostly its head is one byte and its bytes are those of a name; `text` reads the others.
-    pub fn name(self, doc: &[u8]) -> Answer
+    pub fn name(self, doc: &[u8]) -> Answer<u64>
         ensures { result ≡ answer (map_r length (read_name doc.now self.at)) }
     {
         let at = self.at;
@@ -179,8 +170,8 @@ impl Cursor {
                 if n < len - at {
                     let from = at + 1;
                     let end = from + n;
-                    if all_name_bytes(&doc[from..end]) {
-                        return Answer::Got(n as u64, Cursor { at: end });
+                    if all_of::<NameBytes>(&doc[from..end]) {
+                        return Ok((n as u64, Cursor { at: end }));
                     }
                 }
             }
@@ -190,19 +181,13 @@ impl Cursor {
     }
 
     // A string: its length, and the cursor after it.
-    pub fn text(self, doc: &[u8], text: Text) -> Answer
+    pub fn text(self, doc: &[u8], text: Text) -> Answer<u64>
         ensures { result ≡ answer (map_r length (read_text (least_of text) (alphabet_of text) doc.now self.at)) }
     {
         let at = self.at;
-        let r = self.kind(doc, 3);
-        let Answer::Got(len, next) = r else {
-            return r;
-        };
-        if len < least(text) {
-            return Answer::Refused(Fault::OutOfRange, at);
-        }
-        if limits::TEXT < len {
-            return Answer::Refused(Fault::OutOfRange, at);
+        let (len, next) = self.kind(doc, 3)?;
+        if len < least(text) || limits::TEXT < len {
+            return Err(Fault::OutOfRange.at(at));
         }
         text_bytes(doc, text, at, len as usize, next.at)
     }

@@ -1,132 +1,98 @@
 // Transitions, and what they emit and set.
 ghost use Rattle.std.specs.Prelude.{◌≡◌};
-ghost use Rattle.reading.specs.Limits.{max_list};
-ghost use Rattle.reading.specs.Combine.{optional, list_of};
 ghost use Rattle.reading.specs.Transition.{read_output_expr, read_assignment, read_on_error, read_transition};
-ghost use Rattle.reading.specs.Link.{onward};
+ghost use Rattle.reading.specs.Link.{stands};
 
+use crate::cursor::Cursor;
+use crate::expr::Expr;
+use crate::fault::Refusal;
 use crate::limits;
-use crate::step::{Null, Step};
+use crate::list::{Item, Name, U32, U64};
+use crate::pattern::Pattern;
 
-#[derive(Clone, Copy)]
-pub struct OutputExpr {}
+// An output that is emitted.
+pub(crate) struct OutputExpr {}
 
 impl OutputExpr {
-    pub const FIELDS: u64 = 3;
+    pub(crate) const FIELDS: u64 = 3;
 }
 
-#[derive(Clone, Copy)]
-pub struct Assignment {}
+impl Item for OutputExpr {
+    ghost ends = { λ s at. stands (read_output_expr s at) };
 
-impl Assignment {
-    pub const FIELDS: u64 = 2;
-}
-
-#[derive(Clone, Copy)]
-pub struct OnError {}
-
-impl OnError {
-    pub const FIELDS: u64 = 2;
-}
-
-#[derive(Clone, Copy)]
-pub struct Transition {}
-
-impl Transition {
-    pub const FIELDS: u64 = 8;
-}
-
-impl Step {
-    pub(crate) fn output_expr(self, doc: &[u8]) -> Step
-        ensures value { result ≡ onward doc.now self read_output_expr }
+    fn pass(c: Cursor, doc: &[u8]) -> Result<Cursor, Refusal>
+        ensures value { result ≡ stands (read_output_expr doc.now c.at) }
         ensures fields { OutputExpr.FIELDS ≡ 3 }
     {
-        self.fields(doc, OutputExpr::FIELDS)
-            .name(doc)
-            .optional_name(doc)
-            .exprs(doc)
+        c.fields(doc, OutputExpr::FIELDS)?
+            .past::<Name>(doc)?
+            .optional::<Name>(doc)?
+            .list::<Expr>(doc, limits::LIST)
     }
+}
 
-    pub(crate) fn output_exprs(self, doc: &[u8]) -> Step
-        ensures { result ≡ onward doc.now self (list_of max_list read_output_expr) }
-    {
-        let counted = self.count(doc, limits::LIST);
-        let n = counted.value();
-        let mut r = counted.step();
-        let mut i: u64 = 0;
-        while i < n {
-            r = r.output_expr(doc);
-            i += 1;
-        }
-        r
-    }
+// A variable that is set.
+pub(crate) struct Assignment {}
 
-    pub(crate) fn assignment(self, doc: &[u8]) -> Step
-        ensures value { result ≡ onward doc.now self read_assignment }
+impl Assignment {
+    pub(crate) const FIELDS: u64 = 2;
+}
+
+impl Item for Assignment {
+    ghost ends = { λ s at. stands (read_assignment s at) };
+
+    fn pass(c: Cursor, doc: &[u8]) -> Result<Cursor, Refusal>
+        ensures value { result ≡ stands (read_assignment doc.now c.at) }
         ensures fields { Assignment.FIELDS ≡ 2 }
     {
-        self.fields(doc, Assignment::FIELDS).name(doc).top_expr(doc)
+        c.fields(doc, Assignment::FIELDS)?
+            .past::<Name>(doc)?
+            .past::<Expr>(doc)
     }
+}
 
-    pub(crate) fn assignments(self, doc: &[u8]) -> Step
-        ensures { result ≡ onward doc.now self (list_of max_list read_assignment) }
-    {
-        let counted = self.count(doc, limits::LIST);
-        let n = counted.value();
-        let mut r = counted.step();
-        let mut i: u64 = 0;
-        while i < n {
-            r = r.assignment(doc);
-            i += 1;
-        }
-        r
-    }
+// What is done on an error.
+pub(crate) struct OnError {}
 
-    pub(crate) fn on_error(self, doc: &[u8]) -> Step
-        ensures value { result ≡ onward doc.now self read_on_error }
+impl OnError {
+    pub(crate) const FIELDS: u64 = 2;
+}
+
+impl Item for OnError {
+    ghost ends = { λ s at. stands (read_on_error s at) };
+
+    fn pass(c: Cursor, doc: &[u8]) -> Result<Cursor, Refusal>
+        ensures value { result ≡ stands (read_on_error doc.now c.at) }
         ensures fields { OnError.FIELDS ≡ 2 }
     {
-        self.fields(doc, OnError::FIELDS)
-            .name(doc)
-            .output_exprs(doc)
+        c.fields(doc, OnError::FIELDS)?
+            .past::<Name>(doc)?
+            .list::<OutputExpr>(doc, limits::LIST)
     }
+}
 
-    pub(crate) fn optional_on_error(self, doc: &[u8]) -> Step
-        ensures { result ≡ onward doc.now self (optional read_on_error) }
-    {
-        let n = self.null(doc);
-        match n {
-            Null::Past(c) => Step::To(c),
-            Null::Not => self.on_error(doc),
-        }
-    }
+// A transition.
+pub(crate) struct Transition {}
 
-    pub(crate) fn transition(self, doc: &[u8]) -> Step
-        ensures value { result ≡ onward doc.now self read_transition }
+impl Transition {
+    pub(crate) const FIELDS: u64 = 8;
+}
+
+impl Item for Transition {
+    ghost ends = { λ s at. stands (read_transition s at) };
+
+    fn pass(c: Cursor, doc: &[u8]) -> Result<Cursor, Refusal>
+        ensures value { result ≡ stands (read_transition doc.now c.at) }
         ensures fields { Transition.FIELDS ≡ 8 }
     {
-        self.fields(doc, Transition::FIELDS)
-            .number(doc, limits::U64)
-            .name(doc)
-            .pattern(doc)
-            .optional_expr(doc)
-            .name(doc)
-            .output_exprs(doc)
-            .assignments(doc)
-            .optional_u32(doc)
-    }
-
-    pub(crate) fn transitions(self, doc: &[u8]) -> Step
-        ensures { result ≡ onward doc.now self (list_of max_list read_transition) }
-    {
-        let counted = self.count(doc, limits::LIST);
-        let n = counted.value();
-        let mut r = counted.step();
-        let mut i: u64 = 0;
-        while i < n {
-            r = r.transition(doc);
-            i += 1;
-        }
-        r
+        c.fields(doc, Transition::FIELDS)?
+            .past::<U64>(doc)?
+            .past::<Name>(doc)?
+            .past::<Pattern>(doc)?
+            .optional::<Expr>(doc)?
+            .past::<Name>(doc)?
+            .list::<OutputExpr>(doc, limits::LIST)?
+            .list::<Assignment>(doc, limits::LIST)?
+            .optional::<U32>(doc)
     }
 }

@@ -5,110 +5,82 @@ ghost use Rattle.reading.specs.Skip.{skip_body, skip_head, skip_items, text_at};
 ghost use Rattle.reading.specs.Link.{answer, stands};
 ghost use Rattle.reading.specs.Short.{Passed};
 
-use crate::cursor::{Cursor, Head};
-use crate::fault::Fault;
+use crate::cursor::{Answer, Cursor, Head};
+use crate::fault::{Fault, Refusal};
 use crate::item;
-use crate::item::Answer;
-use crate::step::Step;
-
-// Past an item whose head is one byte, or a string's two: how many items are then left; or it has another head, or its bytes are not there.
-#[derive(Clone, Copy)]
-enum Short {
-    Past(u64, Cursor),
-    Longer,
-}
 
 // The items that are left, and where the first stands.
-#[derive(Clone, Copy)]
+#[derive(Clone, Copy, Debug, PartialEq, Eq)]
 struct Rest {
     left: u64,
     at: usize,
 }
 
-// How many items are inside an item.
-fn inside(major: u8, arg: u64) -> u64
-    ensures { result ≡ inside (record { major = major; argument = arg }) }
+// How many items are inside an item, and how many bytes follow its head: two functions of `specs/Items.antt`.
+fn inside(head: Head) -> u64
+    ensures { result ≡ inside head }
 {
-    if major == 4 {
-        return arg;
-    }
-    0
+    if head.major == 4 { head.argument } else { 0 }
 }
 
-// How many bytes follow its head.
-fn payload(major: u8, arg: u64) -> u64
-    ensures { result ≡ payload (record { major = major; argument = arg }) }
+fn payload(head: Head) -> u64
+    ensures { result ≡ payload head }
 {
-    if major == 3 {
-        return arg;
-    }
-    0
+    if head.major == 3 { head.argument } else { 0 }
 }
 
 impl Cursor {
     // Past one head and its string's bytes: how many items are then left, those inside it and `more` after it.
-    fn skip_head(self, doc: &[u8], more: u64) -> Answer
+    fn skip_head(self, doc: &[u8], more: u64) -> Answer<u64>
         ensures { result ≡ answer (skip_head more doc.now self.at) }
     {
         let at = self.at;
-        let h = self.head(doc);
-        match h {
-            Head::Item(major, arg, next) => next.skip_body(
-                doc,
-                at,
-                more,
-                inside(major, arg),
-                payload(major, arg),
-            ),
-            Head::Refused(fault, place) => Answer::Refused(fault, place),
-        }
+        let (head, next) = self.head(doc)?;
+        next.skip_body(doc, at, more, inside(head), payload(head))
     }
 
     // The same after the head.
-    fn skip_body(self, doc: &[u8], at: usize, more: u64, items: u64, bytes: u64) -> Answer
+    fn skip_body(self, doc: &[u8], at: usize, more: u64, items: u64, bytes: u64) -> Answer<u64>
         requires { self.at ≤ length doc.now }
         ensures { result ≡ answer (skip_body more items bytes doc.now at self.at) }
     {
         let from = self.at;
         let room = (doc.len() - from) as u64;
         if room < more {
-            return Answer::Refused(Fault::Truncated, at);
+            return Err(Fault::Truncated.at(at));
         }
         if room - more < items {
-            return Answer::Refused(Fault::Truncated, at);
+            return Err(Fault::Truncated.at(at));
         }
         if room - more - items < bytes {
-            return Answer::Refused(Fault::Truncated, at);
+            return Err(Fault::Truncated.at(at));
         }
-        Answer::Got(
+        Ok((
             more + items,
             Cursor {
                 at: from + bytes as usize,
             },
-        )
+        ))
     }
 
     // Past so many items, the first by its whole head, and each after which the next head is longer.
-    fn skip_any(self, doc: &[u8], count: u64) -> Step
+    fn skip_any(self, doc: &[u8], count: u64) -> Result<Cursor, Refusal>
         ensures { result ≡ stands (skip_items count doc.now self.at) }
     {
         let mut at = self.at;
         let mut left = count;
         while 0 < left {
             let c = Cursor { at };
-            let r = c.skip_head(doc, left - 1);
-            let Answer::Got(items, next) = r else {
-                return r.step();
-            };
+            let (items, next) = c.skip_head(doc, left - 1)?;
             let rest = next.skip_shorts(doc, items);
             left = rest.left;
             at = rest.at;
         }
-        Step::To(Cursor { at })
+        Ok(Cursor { at })
     }
 
     // Past a string whose head is two bytes, as that of a name of 24 bytes or more is.
-    fn skip_string(self, doc: &[u8], more: u64) -> Short
+    fn skip_string(self, doc: &[u8], more: u64) -> Option<(u64, Cursor)>
         requires more_in_bounds { self.at + 1 + more ≤ length doc.now }
         requires at_value { get_or doc.now self.at 0 ≡ 120 }
         ensures { Passed more doc.now self.at result }
@@ -116,25 +88,25 @@ impl Cursor {
         let next = self.at + 1;
         let room = (doc.len() - next) as u64 - more;
         if room == 0 {
-            return Short::Longer;
+            return None;
         }
         let n = doc[next] as u64;
         if n < 24 {
-            return Short::Longer;
+            return None;
         }
         if room <= n {
-            return Short::Longer;
+            return None;
         }
-        Short::Past(
+        Some((
             more,
             Cursor {
                 at: next + 1 + n as usize,
             },
-        )
+        ))
     }
 
     // Past one head of one byte, or a string's of two, and its string's bytes: how many items are then left, as `skip_head` says.
-    fn skip_short(self, doc: &[u8], more: u64) -> Short
+    fn skip_short(self, doc: &[u8], more: u64) -> Option<(u64, Cursor)>
         requires { self.at + 1 + more ≤ length doc.now }
         ensures { Passed more doc.now self.at result }
     {
@@ -142,41 +114,41 @@ impl Cursor {
         let b = doc[at];
         let next = at + 1;
         if b < 24 {
-            return Short::Past(more, Cursor { at: next });
+            return Some((more, Cursor { at: next }));
         }
         let room = (doc.len() - next) as u64 - more;
         let n = (b % 32) as u64;
         if 128 <= b {
             if b < 152 {
                 if n <= room {
-                    return Short::Past(more + n, Cursor { at: next });
+                    return Some((more + n, Cursor { at: next }));
                 }
-                return Short::Longer;
+                return None;
             }
             if 244 <= b {
                 if b <= 246 {
-                    return Short::Past(more, Cursor { at: next });
+                    return Some((more, Cursor { at: next }));
                 }
             }
-            return Short::Longer;
+            return None;
         }
         if 96 <= b {
             if b < 120 {
                 if n <= room {
-                    return Short::Past(
+                    return Some((
                         more,
                         Cursor {
                             at: next + n as usize,
                         },
-                    );
+                    ));
                 }
-                return Short::Longer;
+                return None;
             }
             if b == 120 {
                 return self.skip_string(doc, more);
             }
         }
-        Short::Longer
+        None
     }
 
     // Past the items before the first whose head is longer.
@@ -196,8 +168,7 @@ impl Cursor {
         }
         while 0 < left {
             let c = Cursor { at };
-            let r = c.skip_short(doc, left - 1);
-            let Short::Past(items, next) = r else {
+            let Some((items, next)) = c.skip_short(doc, left - 1) else {
                 return Rest { left, at };
             };
             left = items;
@@ -207,7 +178,7 @@ impl Cursor {
     }
 
     // Past so many items, whatever they hold. Mostly heads are one byte, or a string's two; `skip_any` goes on from the first that is longer.
-    pub fn skip(self, doc: &[u8], count: u64) -> Step
+    pub fn skip(self, doc: &[u8], count: u64) -> Result<Cursor, Refusal>
         ensures { result ≡ stands (skip_items count doc.now self.at) }
     {
         let rest = self.skip_shorts(doc, count);
@@ -266,8 +237,7 @@ fn whole_text_at(doc: &[u8], at: usize) -> &[u8]
     ensures { result.now ≡ text_at doc.now at }
 {
     let c = Cursor { at };
-    let r = c.any_kind(doc, 3);
-    let Answer::Got(len, next) = r else {
+    let Ok((len, next)) = c.any_kind(doc, 3) else {
         return &doc[0..0];
     };
     let from = next.at;

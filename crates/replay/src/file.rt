@@ -1,60 +1,58 @@
-// The numbers of a file, and what is printed.
-ghost use Rattle.std.specs.Prelude.{◌<◌};
-
+// The files that are replayed: each is a row of records, and each record a document and what is due for it.
+use std::fmt;
 use std::fs::File;
 use std::io::{Read, Stdout};
+use std::ops::ControlFlow;
 
-// What cannot be written is left out.
-pub(crate) fn print(out: Stdout, text: &[u8]) {
-    let _ = out.write_all(text);
+// The records of one kind, and how many were answered how.
+pub(crate) trait Records {
+    // Judges a document by what follows it in the file; whether the next record is read.
+    fn judge(&mut self, file: &mut File, out: Stdout, doc: &[u8]) -> ControlFlow<()>;
+
+    // The file or the space ends in a record; whether the next one is read.
+    fn cut_off(&mut self) -> ControlFlow<()>;
 }
 
-pub(crate) fn print_number(out: Stdout, n: u64) {
-    let _ = out.print(n);
+// The next byte; none at the file's end.
+pub(crate) fn next_byte(file: &mut File) -> Option<u8> {
+    let mut byte = [0u8; 1];
+    file.read_exact(&mut byte).ok()?;
+    Some(byte[0])
 }
 
-pub(crate) fn wide(b: u8) -> u64
-    ensures { result < 256 }
-{
-    b as u64
+// The number that the next four bytes make, the least significant first; none at the file's end.
+pub(crate) fn next_word(file: &mut File) -> Option<u32> {
+    let mut word = [0u8; 4];
+    file.read_exact(&mut word).ok()?;
+    Some(u32::from_le_bytes(word))
 }
 
-// The number that four bytes make, the least significant first.
-fn word(a: u8, b: u8, c: u8, d: u8) -> u64 {
-    wide(a) + wide(b) * 256 + wide(c) * 65536 + wide(d) * 16777216
+// So many bytes at the front of the space; none where the file or the space ends before.
+pub(crate) fn read_front<'a>(file: &mut File, space: &'a mut [u8], len: usize) -> Option<&'a [u8]> {
+    let front = space.get_mut(..len)?;
+    file.read_exact(front).ok()?;
+    Some(front)
 }
 
-// One more, as long as there is a larger number.
-pub(crate) fn more(n: u64) -> u64 {
-    if n < 18446744073709551615 {
-        return n + 1;
+// Replays the records and prints how many were answered how. A file has fewer records than the loop has turns.
+pub(crate) fn replay<T: Records + fmt::Display + Drop>(
+    mut file: File,
+    out: Stdout,
+    space: &mut [u8],
+    mut records: T,
+) {
+    for _ in 0..100_000 {
+        let Some(len) = next_word(&mut file) else {
+            break;
+        };
+        let turn = match read_front(&mut file, space, len as usize) {
+            Some(doc) => records.judge(&mut file, out, doc),
+            None => records.cut_off(),
+        };
+        if turn.is_break() {
+            break;
+        }
     }
-    n
-}
-
-// The next four bytes of the file as a number; 2^32 at its end.
-pub(crate) fn next_word(file: &mut File) -> u64 {
-    let mut b = [0u8; 4];
-    if file.read_exact(&mut b).is_ok() {
-        return word(b[0], b[1], b[2], b[3]);
-    }
-    4294967296
-}
-
-// The next byte of the file; 256 at its end.
-pub(crate) fn next_byte(file: &mut File) -> u64 {
-    let mut b = [0u8; 1];
-    if file.read_exact(&mut b).is_ok() {
-        return wide(b[0]);
-    }
-    256
-}
-
-// Reads so many bytes to the front of the space; false where the file or the space ends before.
-pub(crate) fn read_front(file: &mut File, space: &mut [u8], len: usize) -> bool {
-    if space.len() < len {
-        return false;
-    }
-    let start = 0;
-    file.read_exact(&mut space[start..len]).is_ok()
+    // What cannot be written is left out.
+    let _ = println!(out; "{records}");
 }

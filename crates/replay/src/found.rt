@@ -1,167 +1,78 @@
 // Replays data/findings.bin: each record has a document, and its findings or its refusal, as the original Rust gives them.
-ghost use Rattle.std.specs.Prelude.{◌<◌};
-
-use crate::file::{more, next_byte, next_word, print, print_number, read_front};
-use crate::sheet::{Due, findings_of, judge};
+use crate::file::{Records, next_byte, next_word, read_front};
+use crate::sheet::{Due, judge};
+use std::fmt;
 use std::fs::File;
 use std::io::Stdout;
+use std::ops::ControlFlow;
 
-// How many documents were accepted and refused as is due, and how many were not; how many findings there were; and whether
-// the file has ended.
-#[derive(Clone, Copy)]
-struct Tally {
+// How many documents were accepted and refused as is due, and how many were not; and how many findings there were.
+#[derive(Clone, Copy, Default)]
+pub(crate) struct Sheets {
     accepted: u64,
     findings: u64,
     refused: u64,
     wrong: u64,
-    ended: bool,
 }
 
-fn fresh() -> Tally {
-    Tally {
-        accepted: 0,
-        findings: 0,
-        refused: 0,
-        wrong: 0,
-        ended: false,
+impl fmt::Display for Sheets {
+    fn fmt<W: fmt::Write>(&self, f: &mut fmt::Formatter<W>) -> fmt::Result {
+        let Sheets {
+            accepted,
+            findings,
+            refused,
+            wrong,
+        } = *self;
+        write!(
+            f,
+            "{accepted} documents with {findings} findings, {refused} refused, {wrong} answered otherwise"
+        )
     }
 }
 
-fn ended(t: Tally) -> Tally {
-    let mut out = t;
-    out.ended = true;
-    out
-}
-
-fn with_wrong(t: Tally) -> Tally {
-    let mut out = t;
-    out.wrong = more(t.wrong);
-    out
-}
-
-// The sum, as long as both are small.
-fn added(sum: u64, n: usize) -> u64 {
-    if 1000000000 < sum {
-        return sum;
+impl Sheets {
+    fn count_right(&mut self, due: Due) {
+        if due.number != 0 {
+            self.refused = self.refused.saturating_add(1);
+            return;
+        }
+        self.accepted = self.accepted.saturating_add(1);
+        self.findings = self.findings.saturating_add(due.findings() as u64);
     }
-    if 1000000000 < n {
-        return sum;
+
+    fn count_wrong(&mut self) {
+        self.wrong = self.wrong.saturating_add(1);
     }
-    sum + n as u64
 }
 
-// With a document more that is answered as is due.
-fn with_right(t: Tally, due: Due) -> Tally {
-    let mut out = t;
-    if due.number != 0 {
-        out.refused = more(t.refused);
-        return out;
-    }
-    out.accepted = more(t.accepted);
-    out.findings = added(t.findings, findings_of(due));
-    out
-}
-
-fn print_due(out: Stdout, due: Due) {
-    print(out, b"otherwise than is due: ");
-    print_number(out, due.number);
-    print(out, b" with ");
-    print_number(out, due.first);
-    print(out, b" and ");
-    print_number(out, due.second);
-    print(out, b"\n");
-}
-
-fn counted(out: Stdout, t: Tally, due: Due, right: bool) -> Tally {
-    if right {
-        return with_right(t, due);
-    }
-    print_due(out, due);
-    with_wrong(t)
-}
-
+// The next answer that is due; past the file's end 256 with 2^32 and 2^32.
 fn next_due(file: &mut File) -> Due {
-    let number = next_byte(file);
-    let first = next_word(file);
-    let second = next_word(file);
     Due {
-        number,
-        first,
-        second,
+        number: next_byte(file).map_or(256, u64::from),
+        first: next_word(file).map_or(1 << 32, u64::from),
+        second: next_word(file).map_or(1 << 32, u64::from),
     }
 }
 
-// Judges the document with the findings that follow it.
-fn replay_findings<'a>(
-    file: &mut File,
-    out: Stdout,
-    doc: &'a [u8],
-    sheet: &mut [u32],
-    t: Tally,
-) -> Tally {
-    let due = next_due(file);
-    let len = 6 * findings_of(due);
-    let mut space = [0u8; 20000];
-    if !read_front(file, &mut space, len) {
-        return ended(with_wrong(t));
+impl Records for Sheets {
+    // The findings that are due follow the answer, six bytes each.
+    fn judge(&mut self, file: &mut File, out: Stdout, doc: &[u8]) -> ControlFlow<()> {
+        let due = next_due(file);
+        let mut space = [0u8; 20000];
+        let Some(findings) = read_front(file, &mut space, 6 * due.findings()) else {
+            return self.cut_off();
+        };
+        if judge(doc, findings, due) {
+            self.count_right(due);
+        } else {
+            let _ = println!(out; "otherwise than is due: {due}");
+            self.count_wrong();
+        }
+        ControlFlow::Continue(())
     }
-    let start = 0;
-    if space.len() < len {
-        return ended(with_wrong(t));
-    }
-    let right = judge(doc, sheet, &space[start..len], due);
-    counted(out, t, due, right)
-}
 
-// Reads the next record and judges it.
-fn replay_one(
-    file: &mut File,
-    out: Stdout,
-    space: &mut [u8],
-    sheet: &mut [u32],
-    t: Tally,
-) -> Tally {
-    if t.ended {
-        return t;
+    fn cut_off(&mut self) -> ControlFlow<()> {
+        self.count_wrong();
+        ControlFlow::Break(())
     }
-    let len = next_word(file);
-    if len == 4294967296 {
-        return ended(t);
-    }
-    let end = len as usize;
-    if !read_front(file, space, end) {
-        return ended(with_wrong(t));
-    }
-    let start = 0;
-    if space.len() < end {
-        return ended(with_wrong(t));
-    }
-    replay_findings(file, out, &space[start..end], sheet, t)
-}
-
-// The file has fewer records than this loop has turns.
-fn replay(file: &mut File, out: Stdout, space: &mut [u8], sheet: &mut [u32]) -> Tally {
-    let mut t = fresh();
-    let mut i: u64 = 0;
-    while i < 100000 {
-        t = replay_one(file, out, space, sheet, t);
-        i += 1;
-    }
-    t
-}
-
-fn report(out: Stdout, t: Tally) {
-    print_number(out, t.accepted);
-    print(out, b" documents with ");
-    print_number(out, t.findings);
-    print(out, b" findings, ");
-    print_number(out, t.refused);
-    print(out, b" refused, ");
-    print_number(out, t.wrong);
-    print(out, b" answered otherwise\n");
-}
-
-pub(crate) fn run(file: &mut File, out: Stdout, space: &mut [u8]) {
-    let mut sheet = [0u32; 16384];
-    report(out, replay(file, out, space, &mut sheet));
 }

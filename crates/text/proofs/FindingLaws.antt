@@ -1,14 +1,12 @@
 -- A message that is put is what the definition says, and the lent bytes keep their length.
+use Rattle.std.specs.Prelude.{Option as Maybe}
 use Prim.Native.Nat.{ℕ, ◌-◌, ◌≤◌}
-use native.Mathlib.Omega.{arith}
-use native.Mathlib.Decide.{ℕ_discrete}
 use mathlib.Core.Path.{◌≡◌, refl, sym, ap, subst, ◌∙◌}
 use mathlib.Core.Bool.{Bool, true}
 use mathlib.Core.List.{List}
 use mathlib.Core.Option.{Option}
 use lib.ListN.{length, take}
 use lib.Seq.{length-sets}
-use Rattle.typing.specs.declared.table.Found.{Found}
 use Rattle.findings.specs.declared.whole.Ready.{Ready}
 use Rattle.reading.specs.Module.{Module}
 use Rattle.findings.proofs.GroupTables.{front_cut}
@@ -21,7 +19,7 @@ use Rattle.text.specs.Bound.{Straight}
 use Rattle.text.specs.declared.said.Said.{Said}
 use Rattle.text.proofs.SayLaws.{warned, with_rows}
 
-pub finding_put : (H : Module → Type 0) (s : List ℕ) (site i j : ℕ) {x : Said} {o : List ℕ} {at r : ℕ} {o' : List ℕ} → Says H s (saying site i j) x → Put o at (saying_text site (saying_of s x)) r o' → PutsFinding H site i j o at r o'
+pub finding_put : (H : Module → Type 0) (s : List ℕ) (site i j : ℕ) {x : Maybe Said} {o : List ℕ} {at r : ℕ} {o' : List ℕ} → Says H s (saying site i j) x → Put o at (saying_text site (saying_of s x)) r o' → PutsFinding H site i j o at r o'
 finding_put H s site i j {o = o} {at = at} {r = r} {o' = o'} p q = record {
   of = λ m h. subst (λ (y : Option Saying). Put o at (saying_text site y) r o') (p.of m h) q;
 }
@@ -41,35 +39,6 @@ judged_site f = f
 pub straight_site : {site : ℕ} {b : Bool} → (b ≡ true → Straight site) → b ≡ true → Straight site
 straight_site f = f
 
-module _ {site : ℕ} where
-  pub at_5 : site ≡ 5 → Straight site
-  at_5 q a = absurd (a q)
-
-  pub at_11 : site ≡ 11 → Straight site
-  at_11 q a b = absurd (b q)
-
-  second : 14 ≤ site → site ≤ 15 → (site ≡ 14 → ⊥) → site ≡ 15
-  second l m n = omega arith
-
-  pub at_14 : 14 ≤ site → site ≤ 15 → Straight site
-  at_14 l m a b c d = absurd (d (second l m c))
-
-  third : 17 ≤ site → site ≤ 19 → (site ≡ 17 → ⊥) → (site ≡ 18 → ⊥) → site ≡ 19
-  third l m n o = omega arith
-
-  pub at_17 : 17 ≤ site → site ≤ 19 → Straight site
-  at_17 l m a b c d e f g = absurd (g (third l m e f))
-
-  pub at_21 : 21 ≤ site → Straight site
-  at_21 l a b c d e f g = l
-
-straight_last : {site : ℕ} → Straight site → site ≤ 20 → (site ≡ 11 → ⊥) → (site ≡ 14 → ⊥) → (site ≡ 15 → ⊥) → (site ≡ 5 → ⊥) → (site ≡ 17 → ⊥) → (site ≡ 18 → ⊥) → site ≡ 19
-straight_last {site} f l b c d a e g = at (ℕ_discrete site 19)
-  where
-    at : Dec (site ≡ 19) → site ≡ 19
-    at (yes q) = q
-    at (no n) = let z = f a b c d e g n in absurd (omega arith)
-
 -- what X says is the message of site k, and what is known of the module has what X asks for
 finding_of : (K H : Module → Type 0) (s : List ℕ) (site i j : ℕ) {o : List ℕ} {at r : ℕ} {o' : List ℕ} (X : Module → Option Saying) (k : ℕ) → ((m : Module) → K m → H m) → ((m : Module) → saying k i j m ≡ X m) → PutsSaid (Says H s X) s k o at r o' → site ≡ k → PutsFinding K site i j o at r o'
 finding_of K H s site i j {o} {at} {r} {o'} X k f x p e =
@@ -85,7 +54,7 @@ module _ (s places rows : List ℕ) (count i j : ℕ) where
   finding_two K site {o} {at} {r} {o'} k f x p e = finding_of K Row s site i j (pair_said i j) k f x (subst (λ (z : ℕ). PutsSaid (Says Row s (pair_said i j)) s z o at r o') e p) e
 
   -- warnings
-  module _ (found : Found) where
+  module _ (found : Maybe ℕ) where
     abbrev Warning : Module → Type 0
     Warning = Warned s places rows count found
 
@@ -102,7 +71,7 @@ module _ (s places rows : List ℕ) (count i j : ℕ) where
       unfolding saying
       finding_24 = finding_two Warning site 24 (λ m h. with_rows h) (λ m. refl)
 
-      pub warning_put : {x : Said} → 21 ≤ site → SaysWarning Warning s site i j x → Put o at (saying_text site (saying_of s x)) r o' → PutsFinding Warning site i j o at r o'
+      pub warning_put : {x : Maybe Said} → 21 ≤ site → SaysWarning Warning s site i j x → Put o at (saying_text site (saying_of s x)) r o' → PutsFinding Warning site i j o at r o'
       warning_put l p = finding_put Warning s site i j (p.of l)
 
   -- any finding
@@ -135,12 +104,9 @@ module _ (s places rows : List ℕ) (count i j : ℕ) where
       unfolding saying
       finding_18 p = finding_of Known (WithClaims s places (take known.claims properties)) s site i j (claim_said i) 18 (λ m h. (h.scene, h.claims_are)) (λ m. refl) (rw (sym (front_cut properties known.claims)) p)
 
-      finding_19 : PutsSaid (Says (WithFormulas s places (take (known.claims - 0) properties) (take 829 table) enums) s (formula_said i)) s 19 o at r o' → site ≡ 19 → PutsFinding Known site i j o at r o'
+      pub finding_19 : PutsSaid (Says (WithFormulas s places (take (known.claims - 0) properties) (take 829 table) enums) s (formula_said i)) s 19 o at r o' → site ≡ 19 → PutsFinding Known site i j o at r o'
       unfolding saying
       finding_19 p = finding_of Known (WithFormulas s places (take known.claims properties) (take 829 table) enums) s site i j (formula_said i) 19 (λ m h. ((h.scene, h.agree), (h.scene, h.claims_are))) (λ m. refl) (rw (sym (front_cut properties known.claims)) p)
-
-      pub finding_last : PutsSaid (Says (WithFormulas s places (take (known.claims - 0) properties) (take 829 table) enums) s (formula_said i)) s 19 o at r o' → Straight site → site ≤ 20 → (site ≡ 11 → ⊥) → (site ≡ 14 → ⊥) → (site ≡ 15 → ⊥) → (site ≡ 5 → ⊥) → (site ≡ 17 → ⊥) → (site ≡ 18 → ⊥) → PutsFinding Known site i j o at r o'
-      finding_last p f l b c d a e g = finding_19 p (straight_last f l b c d a e g)
 
       pub finding_judged : PutsSaid (Says (WithOwn s places rows count (take 829 table) enums) s (saying site i j)) s site o at r o' → PutsFinding Known site i j o at r o'
       finding_judged p = finding_of Known (WithOwn s places rows count (take 829 table) enums) s site i j (saying site i j) site (λ m h. (with_rows (warned h), h.agree)) (λ m. refl) p refl
@@ -148,5 +114,5 @@ module _ (s places rows : List ℕ) (count i j : ℕ) where
       pub finding_warning : PutsFinding (Warned s places rows count known.found) site i j o at r o' → PutsFinding Known site i j o at r o'
       finding_warning p = record { of = λ m h. p.of m (warned h) }
 
-pub said_length : {S : Said → Type 0} {s : List ℕ} {site : ℕ} {o : List ℕ} {at r : ℕ} {o' : List ℕ} → PutsSaid S s site o at r o' → length o' ≡ length o
+pub said_length : {S : Maybe Said → Type 0} {s : List ℕ} {site : ℕ} {o : List ℕ} {at r : ℕ} {o' : List ℕ} → PutsSaid S s site o at r o' → length o' ≡ length o
 said_length p = put_length p.put

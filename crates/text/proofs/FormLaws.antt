@@ -1,6 +1,5 @@
 -- What each byte of a form stands for.
 use Prim.Native.Nat.{ℕ, suc, ◌+◌, ◌-◌, ◌<◌, ◌≤◌}
-use native.Mathlib.Nat.{sub_self}
 use native.Mathlib.Omega.{arith}
 use native.Mathlib.Numerals.{add-one}
 use mathlib.Core.Path.{◌≡◌, refl, sym, ap, ◌∙◌}
@@ -37,9 +36,6 @@ module _ (t : List ℕ) (i : ℕ) (h : i < length t) where
   unfolding format
   form_plain as' e f = rw (at_drop, ne_eqb _ _ e, ne_eqb _ _ f)
 
-pub plain_none : {t : List ℕ} {i : ℕ} → Plain t i i
-plain_none {t} {i} = record { formed = λ as'. rw (sub_self i) }
-
 -- one byte more
 pub plain_more : {t : List ℕ} {i j : ℕ} → i ≤ j → j < length t → (get_or t j 0 ≡ 123 → ⊥) → (get_or t j 0 ≡ 125 → ⊥) → Plain t i j → Plain t i (j + 1)
 plain_more {t} {i} {j} l h e f p =
@@ -59,23 +55,9 @@ pub form_end : (t : List ℕ) (i : ℕ) (as' : List (List ℕ)) → length t ≤
 unfolding format
 form_end t i as' h = rw (drop_of_length-le t h)
 
--- whether an argument stands there, by each test
+-- false is not true
 pub never : {A : Type 0} → false ≡ true → A
 never e = absurd (let z : ◌≡◌ {A = ℕ} 0 1 = cc in omega arith)
-
-pub opens_past : {t : List ℕ} {j n : ℕ} → 5 ≤ n → Opens t j n false
-opens_past h = record { few = λ e. never e; inside = λ e. never e; brace = λ e. never e; none = λ e l g. h }
-
-pub opens_none : {t : List ℕ} {j n : ℕ} → length t ≤ j → Opens t j n false
-opens_none h = record { few = λ e. never e; inside = λ e. never e; brace = λ e. never e; none = λ e l g. omega arith }
-
-pub opens_by : {t : List ℕ} {j n : ℕ} → n < 5 → j < length t → Opens t j n (eqb (get_or t j 0) 123)
-opens_by {t} {j} {n} l h = record {
-  few = λ e. l;
-  inside = λ e. h;
-  brace = λ e. eqb-true (get_or t j 0) 123 e;
-  none = λ e k g. absurd (eqb-false (get_or t j 0) 123 e g);
-}
 
 -- a piece of a form: m plain bytes from i to j, and then an argument or none; e is the place after it
 module _ (t s : List ℕ) (as' : List Arg) (i j n m e : ℕ) (five : length as' ≡ 5) (k : m ≡ j - i) (f : e ≡ beyond t j) {b : Bool} (p : PlainTo t i j) (o : Opens t j n b) where

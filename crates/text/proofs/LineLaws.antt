@@ -1,4 +1,5 @@
 -- What a line says, argument by argument, for whatever reads where its names and numbers stand.
+use Rattle.std.specs.Prelude.{Option as Maybe, ⊤, Result, Ok, Err}
 use Prim.Native.Nat.{ℕ, ◌≤◌}
 use mathlib.Core.Path.{◌≡◌, ap, ◌∙◌}
 use mathlib.Core.List.{List}
@@ -17,11 +18,8 @@ use Rattle.reading.specs.Link.{answer}
 use Rattle.reading.specs.Module.{Module}
 use Rattle.reading.specs.Transition.{Transition, read_top_expr}
 use Rattle.reading.specs.declared.cursor.Cursor.{Cursor}
-use Rattle.reading.specs.declared.fault.Fault.{Fault}
-use Rattle.reading.specs.declared.item.Answer.{Answer}
-use Rattle.reading.specs.declared.item.Answer.TheVariants.{Got, Refused}
 use Rattle.reading.proofs.Rules.{no, bind_ok, pick_false}
-use Rattle.reading.proofs.Answers.{num, out}
+use Rattle.reading.proofs.Answers.{got, out}
 use Rattle.reading.proofs.ItemLaws.{number_kind}
 use Rattle.reading.proofs.Walks.{name_text}
 use Rattle.typing.specs.Causes as causes
@@ -31,19 +29,19 @@ use Rattle.findings.specs.Scene.{Reads, Scene, RowAt, field}
 use Rattle.findings.proofs.OptionLaws.{Given, not_given, is_given}
 use Rattle.text.specs.Shown.{decimal}
 use Rattle.text.specs.Message.{five}
-use Rattle.text.specs.Said.{shown, saying_of}
+use Rattle.text.specs.Said.{shown, saying_of, line}
 use Rattle.text.specs.Says.{NumberAt}
 use Rattle.text.specs.declared.said.Arg.{Arg}
 use Rattle.text.specs.declared.said.Arg.TheVariants.{Name, Number}
 use Rattle.text.specs.declared.said.Said.{Said}
-use Rattle.text.specs.declared.said.Said.TheVariants.{Line}
-
 -- what reads at a place that is known
+use Rattle.reading.specs.declared.fault.Refusal.{Refusal}
+
 pub reads_there : {A : Type 0} {F : Reader A} {s : List ℕ} {k k' : ℕ} {x : A} {m : ℕ} → k ≡ k' → F s k' ≡ ok x m → Reads F s k x
 reads_there {F} {s} {m} h e = record { end = m; is = ap (F s) h ∙ e }
 
 module _ (s : List ℕ) where
-  pub line_says : {r : Said} {a b c d e : Arg} {w : Blame} {a' b' c' d' e' : List ℕ} {w' : Option causes.Blame} → r ≡ Line a b c d e w → shown s a ≡ a' → shown s b ≡ b' → shown s c ≡ c' → shown s d ≡ d' → shown s e ≡ e' → blame_of s w ≡ w' → saying_of s r ≡ some (five a' b' c' d' e' w')
+  pub line_says : {r : Maybe Said} {a b c d e : Arg} {w : Result ⊤ Blame} {a' b' c' d' e' : List ℕ} {w' : Option causes.Blame} → r ≡ line a b c d e w → shown s a ≡ a' → shown s b ≡ b' → shown s c ≡ c' → shown s d ≡ d' → shown s e ≡ e' → blame_of s w ≡ w' → saying_of s r ≡ some (five a' b' c' d' e' w')
   unfolding saying_of
   line_says q a b c d e w = ap (saying_of s) q ∙ (λ i. some (five (a i) (b i) (c i) (d i) (e i) (w i)))
 
@@ -64,11 +62,11 @@ module _ (s : List ℕ) where
   unfolding read_number
   number_wider at most v n l e = let z = number_kind s at most v n e in rw (z.0, bind_ok, le-ltb max_u64 v (omega (arith, z.1)), pick_false)
 
-  module _ {at : ℕ} {a : Answer} (e : a ≡ answer (read_number max_u64 s at)) where
-    pub number_got : {v : ℕ} {c : Cursor} → a ≡ Got v c → NumberAt s at v
-    number_got q = record { of = λ most v n l h. let x = num _ e q in let y = number_wider at most v n l h in cc }
+  module _ {at : ℕ} {a : Result (ℕ × Cursor) Refusal} (e : a ≡ answer (read_number max_u64 s at)) where
+    pub number_got : {v : ℕ} {c : Cursor} → a ≡ Ok (v, c) → NumberAt s at v
+    number_got q = record { of = λ most v n l h. let x = got _ e q in let y = number_wider at most v n l h in cc }
 
-    pub number_none : {f : Fault} {p : ℕ} (r : ℕ) → a ≡ Refused f p → NumberAt s at r
+    pub number_none : {f : Refusal} (r : ℕ) → a ≡ Err f → NumberAt s at r
     number_none r q = record { of = λ most v n l h. no (let x = out _ e q in let y = number_wider at most v n l h in cc) }
 
 -- the guard of transition i, by whether null stands there

@@ -1,5 +1,5 @@
 -- Whether a path stands at a place, and its names one by one.
-use Prim.Native.Nat.{ℕ, zero, suc, ◌-◌, ◌<◌, ◌≤◌}
+use Prim.Native.Nat.{ℕ, zero, suc, ◌+◌, ◌-◌, ◌<◌, ◌≤◌}
 use native.Mathlib.Numerals.{sub-one}
 use native.Mathlib.Omega.{arith}
 use mathlib.Core.Path.{◌≡◌, refl, sym, ap, ◌∙◌}
@@ -16,10 +16,8 @@ use Rattle.reading.specs.Link.{answer}
 use Rattle.reading.specs.Skip.{text_at}
 use Rattle.reading.specs.declared.cursor.Cursor.{Cursor}
 use Rattle.reading.specs.declared.fault.Fault.{Fault}
-use Rattle.reading.specs.declared.item.Answer.{Answer}
-use Rattle.reading.specs.declared.item.Answer.TheVariants.{Got, Refused}
 use Rattle.reading.proofs.Rules.{no}
-use Rattle.reading.proofs.Answers.{num, out}
+use Rattle.reading.proofs.Answers.{got, out}
 use Rattle.reading.proofs.ItemLaws.{count_kind}
 use Rattle.reading.proofs.ListViews.{list_at}
 use Rattle.reading.proofs.Walks.{name_text}
@@ -29,8 +27,10 @@ use Rattle.typing.proofs.EnvLaws.{entry}
 use Rattle.text.specs.Form.{text}
 use Rattle.text.specs.Shown.{quoted, more_names, debug_names}
 use Rattle.text.specs.Path.{reads, names_from}
-
 -- a name that is read, or not
+use Rattle.std.specs.Prelude.{Result, Ok, Err}
+use Rattle.reading.specs.declared.fault.Refusal.{Refusal}
+
 place_ok : (m : Read Name) (v n : ℕ) → map_r length m ≡ ok v n → n ≡ place_after m
 unfolding map_r place_after
 place_ok (ok w k) v n e = cc
@@ -51,18 +51,12 @@ unfolding map_r reads
 reads_out (ok w k) f p e = no (cc)
 reads_out (refused g k) f p e = refl
 
-module _ (m : Read Name) {r : Answer} (e : r ≡ answer (map_r length m)) where
-  pub after_got : {v : ℕ} {c : Cursor} → r ≡ Got v c → c.at ≡ place_after m
-  after_got {v} {c} q = place_ok m v c.at (num (map_r length m) e q)
+module _ (m : Read Name) {r : Result (ℕ × Cursor) Refusal} (e : r ≡ answer (map_r length m)) where
+  pub after_got : {v : ℕ} {c : Cursor} → r ≡ Ok (v, c) → c.at ≡ place_after m
+  after_got {v} {c} q = place_ok m v c.at (got (map_r length m) e q)
 
-  pub after_refused : {f : Fault} {p : ℕ} → r ≡ Refused f p → p ≡ place_after m
-  after_refused {f} {p} q = place_out m f p (out (map_r length m) e q)
-
-  pub name_got : {v : ℕ} {c : Cursor} → r ≡ Got v c → true ≡ reads m
-  name_got {v} {c} q = reads_ok m v c.at (num (map_r length m) e q)
-
-  pub name_refused : {f : Fault} {p : ℕ} → r ≡ Refused f p → false ≡ reads m
-  name_refused {f} {p} q = reads_out m f p (out (map_r length m) e q)
+  pub after_refused : {f : Refusal} → r ≡ Err f → f.place ≡ place_after m
+  after_refused {f} q = place_out m f.fault f.place (out (map_r length m) e q)
 
 -- names one after another
 map_reads : {A B : Type 0} (g : A → B) (m : Read A) → reads (map_r g m) ≡ reads m
@@ -81,19 +75,22 @@ module _ (s : List ℕ) (k : ℕ) where
   entries_reads zero h = absurd (omega arith)
   entries_reads (suc n) h = bind_reads n s (read_name s k) ∙ rw sub-one
 
-  module _ (left : ℕ) {w : Bool} (r : reads (entries left read_name s k) ≡ w) where
-    pub names_done : left ≤ 0 → true ≡ w
+  module _ (count i : ℕ) {w : Bool} (r : reads (entries (count - i) read_name s k) ≡ w) where
+    pub names_done : count ≤ i → true ≡ w
     unfolding entries reads
-    names_done h = let z : left ≡ 0 = omega arith in rw z at r
+    names_done h = let z : count - i ≡ 0 = omega arith in rw z at r
 
-    module _ {x : Bool} (e : x ≡ reads (read_name s k)) (h : 0 < left) where
-      pub names_stop : x ≡ false → false ≡ w
+    module _ {a : Result (ℕ × Cursor) Refusal} (e : a ≡ answer (map_r length (read_name s k))) (h : i < count) where
+      pub names_stop : {f : Refusal} → a ≡ Err f → false ≡ w
       unfolding pick
-      names_stop q = let y : reads (read_name s k) ≡ false = sym e ∙ q in rw y at (sym (entries_reads left h) ∙ r)
+      names_stop {f} q = let y = sym (reads_out (read_name s k) f.fault f.place (out (map_r length (read_name s k)) e q)) in rw y at (sym (entries_reads (count - i) (omega arith)) ∙ r)
 
-      pub names_on : {j : ℕ} → x ≡ true → j ≡ place_after (read_name s k) → reads (entries (left - 1) read_name s j) ≡ w
+      pub names_on : {v : ℕ} {c : Cursor} → a ≡ Ok (v, c) → reads (entries (count - (i + 1)) read_name s c.at) ≡ w
       unfolding pick
-      names_on q i = let y : reads (read_name s k) ≡ true = sym e ∙ q in rw i (rw y at (sym (entries_reads left h) ∙ r))
+      names_on {v} {c} q =
+          let y = sym (reads_ok (read_name s k) v c.at (got (map_r length (read_name s k)) e q)) in
+          let z : count - (i + 1) ≡ count - i - 1 = omega arith in
+          rw (after_got (read_name s k) e q, z) (rw y at (sym (entries_reads (count - i) (omega arith)) ∙ r))
 
 -- the names that are read are those that are put
 names_are : (s : List ℕ) (ns : List Name) (k n : ℕ) → entries (length ns) read_name s k ≡ ok ns n → names_from (length ns) s k ≡ ns
@@ -113,18 +110,18 @@ unfolding reads names_of place_after
 some_read (ok p n) e = refl
 some_read (refused f p) e = no (cc)
 
-module _ (s : List ℕ) (at : ℕ) {a : Answer} (e : a ≡ answer (read_count max_path s at)) where
-  pub path_refused : {f : Fault} {p : ℕ} → a ≡ Refused f p → debug_names (path_at s at) ≡ text "[]"
+module _ (s : List ℕ) (at : ℕ) {a : Result (ℕ × Cursor) Refusal} (e : a ≡ answer (read_count max_path s at)) where
+  pub path_refused : {f : Refusal} → a ≡ Err f → debug_names (path_at s at) ≡ text "[]"
   unfolding read_path list_of bind names_of debug_names
   path_refused q = rw (out _ e q)
 
-  module _ {m : ℕ} {c : Cursor} (q : a ≡ Got m c) where
+  module _ {m : ℕ} {c : Cursor} (q : a ≡ Ok (m, c)) where
     pub path_few : m ≤ 8
-    path_few = (count_kind s at max_path m c.at (num _ e q)).1
+    path_few = (count_kind s at max_path m c.at (got _ e q)).1
 
     path_read : read_path s at ≡ entries m read_name s c.at
     unfolding read_path list_of bind
-    path_read = rw (num _ e q)
+    path_read = rw (got _ e q)
 
     module _ {b : Bool} (g : b ≡ reads (entries m read_name s c.at)) where
       pub path_none : b ≡ false → debug_names (path_at s at) ≡ text "[]"
@@ -135,7 +132,7 @@ module _ (s : List ℕ) (at : ℕ) {a : Answer} (e : a ≡ answer (read_count ma
       unfolding read_path
       path_names h =
           let l = list_at read_name s max_path at (path_at s at) (place_after (read_path s at)) (some_read (read_path s at) (ap reads path_read ∙ sym g ∙ h)) in
-          let x = num _ e q in
+          let x = got _ e q in
           let y = l.opens in
           let u : length (path_at s at) ≡ m = cc in
           let v : l.first ≡ c.at = cc in
@@ -146,10 +143,12 @@ pub more_none : (n : ℕ) (s : List ℕ) (k : ℕ) → n ≤ 0 → more_names (n
 unfolding names_from more_names
 more_none n s k h = let z : n ≡ 0 = omega arith in rw z
 
-pub more_one : (n : ℕ) (s : List ℕ) (k : ℕ) {j : ℕ} → 0 < n → j ≡ place_after (read_name s k) → more_names (names_from n s k) ≡ text ", " ++ quoted (text_at s k) ++ more_names (names_from (n - 1) s j)
+more_of : (n : ℕ) (s : List ℕ) (k : ℕ) {j : ℕ} → j ≡ place_after (read_name s k) → more_names (names_from (suc n) s k) ≡ text ", " ++ quoted (text_at s k) ++ more_names (names_from n s j)
 unfolding names_from more_names
-more_one zero s k h i = absurd (omega arith)
-more_one (suc n) s k h i = rw (sub-one, i)
+more_of n s k e = rw e
+
+pub more_one : (count i : ℕ) (s : List ℕ) (k : ℕ) {j : ℕ} → i < count → j ≡ place_after (read_name s k) → more_names (names_from (count - i) s k) ≡ text ", " ++ quoted (text_at s k) ++ more_names (names_from (count - (i + 1)) s j)
+more_one count i s k h e = let z : count - i ≡ suc (count - (i + 1)) = omega arith in rw z (more_of (count - (i + 1)) s k e)
 
 pub list_none : (n : ℕ) (s : List ℕ) (k : ℕ) → n ≡ 0 → debug_names (names_from n s k) ≡ text "[]"
 unfolding names_from debug_names

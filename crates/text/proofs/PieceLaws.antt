@@ -1,4 +1,5 @@
 -- The form of two transitions from its pieces, and what is said of them by it.
+use Rattle.std.specs.Prelude.{Option, None, Ok}
 use Prim.Native.Nat.{ℕ, ◌<◌}
 use mathlib.Core.Path.{◌≡◌, refl, sym, ap, ◌∙◌}
 use mathlib.Core.Bool.{Bool, true, false, cond}
@@ -7,28 +8,21 @@ use mathlib.Core.List.{List, [], ◌∷◌, ◌++◌, append_assoc, append-nil}
 use lib.ListN.{get_or}
 use Rattle.reading.specs.Skip.{text_at}
 use Rattle.typing.specs.Means.{blame_of}
-use Rattle.typing.specs.declared.cause.Blame.TheVariants as blame
 use Rattle.findings.specs.Scene.{field}
-use Rattle.text.specs.Form.{text, format, next, rest}
+use Rattle.text.specs.Form.{text, format, plain, next, rest}
 use Rattle.text.specs.Shown.{decimal}
 use Rattle.text.specs.Put.{Put}
-use Rattle.text.specs.Pieces.{in_state, in_priority, both_ids}
+use Rattle.text.specs.Pieces.{in_state, in_priority, PutTwo}
 use Rattle.text.specs.CauseText.{blame_text}
 use Rattle.text.specs.Message.{site_form, saying_text, pair_said, priority_said}
-use Rattle.text.specs.Said.{shown, saying_of}
+use Rattle.text.specs.Said.{shown, saying_of, line}
 use Rattle.text.specs.Says.{NumberAt, WithRows, Says, SaysPair, SaysPriority, PutsSaid}
 use Rattle.text.specs.declared.said.Arg.TheVariants.{Blank, Name, Number}
 use Rattle.text.specs.declared.said.Said.{Said}
-use Rattle.text.specs.declared.said.Said.TheVariants.{Nothing, Line}
 use Rattle.text.proofs.PutLaws.{put_is, put_none, ◌then◌}
 use Rattle.text.proofs.FormLaws.{never}
 use Rattle.text.proofs.PairLaws.{pair_said_lem, priority_absent, priority_said_lem}
 use Rattle.text.proofs.SayLaws.{pair_there, priority_there}
-
--- no byte of p is a brace
-unfoldable pub plain : List ℕ → Bool
-plain [] = true
-plain (c ∷ p) = cond (eqb c 123) false (cond (eqb c 125) false (plain p))
 
 neither : {A : Type 0} (a b c : Bool) (x y z : A) → cond a false (cond b false c) ≡ true → (cond a x (cond b y z) ≡ z) × (c ≡ true)
 neither true b c x y z h = never h
@@ -36,7 +30,7 @@ neither false true c x y z h = never h
 neither false false c x y z h = (refl, h)
 
 pub format_plain : (p f : List ℕ) (as' : List (List ℕ)) → plain p ≡ true → format (p ++ f) as' ≡ p ++ format f as'
-unfolding format plain
+unfolding format
 format_plain [] f as' h = refl
 format_plain (c ∷ p) f as' h =
     let e = neither (eqb c 123) (eqb c 125) (plain p) (next as' ++ format (p ++ f) (rest as')) (format (p ++ f) as') (c ∷ format (p ++ f) as') h in
@@ -56,17 +50,15 @@ abbrev ids : List ℕ → List ℕ → List ℕ
 ids p q = p ++ (text "{} and #{}" ++ q)
 
 ids_are : (i j p q : List ℕ) (as' : List (List ℕ)) → plain p ≡ true → plain q ≡ true → format (ids p q) (i ∷ j ∷ as') ≡ p ++ (i ++ (text " and #" ++ (j ++ q)))
-unfolding plain
 ids_are i j p q as' g h =
     format_arg p (text " and #{}" ++ q) i (j ∷ as') g
     ∙ ap (λ (x : List ℕ). p ++ (i ++ x)) (
     format_arg (text " and #") q j as' refl ∙ ap (λ (x : List ℕ). text " and #" ++ (j ++ x)) (format_end q as' h))
 
-appended : (m n k t p i a j q : List ℕ) → m ++ (n ++ (k ++ (t ++ (p ++ (i ++ (a ++ (j ++ q))))))) ≡ m ++ n ++ k ++ t ++ p ++ (i ++ a ++ j) ++ q
+appended : (m n k t p i a j q : List ℕ) → m ++ (n ++ (k ++ (t ++ (p ++ (i ++ (a ++ (j ++ q))))))) ≡ m ++ n ++ k ++ t ++ (p ++ i ++ a ++ j ++ q)
 appended m n k t p i a j q = simp append_assoc
 
 in_state_lem : (n t f : List ℕ) (as' : List (List ℕ)) → format (text "module '{}' state '{}" ++ f) (n ∷ t ∷ as') ≡ text "module '" ++ (n ++ (text "' state '" ++ (t ++ format f as')))
-unfolding plain
 in_state_lem n t f as' =
     format_arg (text "module '") (text "' state '{}" ++ f) n (t ∷ as') refl
     ∙ ap (λ (x : List ℕ). text "module '" ++ (n ++ x)) (format_arg (text "' state '") f t as' refl)
@@ -79,19 +71,19 @@ abbrev pub ranked : List ℕ → List ℕ → List ℕ
 ranked p q = text "module '{}' state '{}" ++ (text "': duplicate priority {}" ++ ids p q)
 
 formed_is : (n t i j p q : List ℕ) → plain p ≡ true → plain q ≡ true
-    → format (formed p q) (n ∷ t ∷ i ∷ j ∷ [] ∷ []) ≡ in_state n t ++ p ++ both_ids i j ++ q
-unfolding in_state both_ids
+    → format (formed p q) (n ∷ t ∷ i ∷ j ∷ [] ∷ []) ≡ in_state n t ++ (p ++ i ++ text " and #" ++ j ++ q)
+unfolding in_state
 formed_is n t i j p q g h =
     in_state_lem n t (ids p q) (i ∷ j ∷ [] ∷ [])
     ∙ ap (λ (x : List ℕ). text "module '" ++ (n ++ (text "' state '" ++ (t ++ x)))) (ids_are i j p q ([] ∷ []) g h)
     ∙ appended (text "module '") n (text "' state '") t p i (text " and #") j q
 
-prepended : (m n k t d r p i a j q : List ℕ) → m ++ (n ++ (k ++ (t ++ (d ++ (r ++ (p ++ (i ++ (a ++ (j ++ q))))))))) ≡ m ++ n ++ k ++ t ++ d ++ r ++ p ++ (i ++ a ++ j) ++ q
+prepended : (m n k t d r p i a j q : List ℕ) → m ++ (n ++ (k ++ (t ++ (d ++ (r ++ (p ++ (i ++ (a ++ (j ++ q))))))))) ≡ m ++ n ++ k ++ t ++ d ++ r ++ (p ++ i ++ a ++ j ++ q)
 prepended m n k t d r p i a j q = simp append_assoc
 
 ranked_is : (n t r i j p q : List ℕ) → plain p ≡ true → plain q ≡ true
-    → format (ranked p q) (n ∷ t ∷ r ∷ i ∷ j ∷ []) ≡ in_priority n t r ++ p ++ both_ids i j ++ q
-unfolding plain in_state in_priority both_ids
+    → format (ranked p q) (n ∷ t ∷ r ∷ i ∷ j ∷ []) ≡ in_priority n t r ++ (p ++ i ++ text " and #" ++ j ++ q)
+unfolding in_state in_priority
 ranked_is n t r i j p q g h =
     in_state_lem n t (text "': duplicate priority {}" ++ ids p q) (r ∷ i ∷ j ∷ [])
     ∙ ap (λ (x : List ℕ). text "module '" ++ (n ++ (text "' state '" ++ (t ++ x)))) (
@@ -99,39 +91,35 @@ ranked_is n t r i j p q g h =
     ∙ ap (λ (x : List ℕ). text "': duplicate priority " ++ (r ++ x)) (ids_are i j p q [] g h))
     ∙ prepended (text "module '") n (text "' state '") t (text "': duplicate priority ") r p i (text " and #") j q
 
-pub form_put : (f n t i j : List ℕ) {o o₁ o₂ o₃ o₄ p q : List ℕ} {at r₁ r₂ r₃ r₄ : ℕ}
+pub form_put : (f n t i j : List ℕ) {o o₁ o₂ p q : List ℕ} {at r₁ r₂ : ℕ}
     → Put o at (in_state n t) r₁ o₁
-    → Put o₁ r₁ p r₂ o₂
-    → Put o₂ r₂ (both_ids i j) r₃ o₃
-    → Put o₃ r₃ q r₄ o₄
+    → PutTwo o₁ r₁ p i (text " and #") j q r₂ o₂
     → f ≡ formed p q
     → plain p ≡ true
     → plain q ≡ true
-    → Put o at (format f (n ∷ t ∷ i ∷ j ∷ [] ∷ [])) r₄ o₄
-form_put f n t i j {p = p} {q = q} a b c d e g h =
-    put_is (ap (λ (x : List ℕ). format x (n ∷ t ∷ i ∷ j ∷ [] ∷ [])) e ∙ formed_is n t i j p q g h) (a then b then c then d)
+    → Put o at (format f (n ∷ t ∷ i ∷ j ∷ [] ∷ [])) r₂ o₂
+form_put f n t i j {p = p} {q = q} a b e g h =
+    put_is (ap (λ (x : List ℕ). format x (n ∷ t ∷ i ∷ j ∷ [] ∷ [])) e ∙ formed_is n t i j p q g h) (a then b.put)
 
-pub rank_put : (f n t k i j : List ℕ) {o o₁ o₂ o₃ o₄ p q : List ℕ} {at r₁ r₂ r₃ r₄ : ℕ}
+pub rank_put : (f n t k i j : List ℕ) {o o₁ o₂ p q : List ℕ} {at r₁ r₂ : ℕ}
     → Put o at (in_priority n t k) r₁ o₁
-    → Put o₁ r₁ p r₂ o₂
-    → Put o₂ r₂ (both_ids i j) r₃ o₃
-    → Put o₃ r₃ q r₄ o₄
+    → PutTwo o₁ r₁ p i (text " and #") j q r₂ o₂
     → f ≡ ranked p q
     → plain p ≡ true
     → plain q ≡ true
-    → Put o at (format f (n ∷ t ∷ k ∷ i ∷ j ∷ [])) r₄ o₄
-rank_put f n t k i j {p = p} {q = q} a b c d e g h =
-    put_is (ap (λ (x : List ℕ). format x (n ∷ t ∷ k ∷ i ∷ j ∷ [])) e ∙ ranked_is n t k i j p q g h) (a then b then c then d)
+    → Put o at (format f (n ∷ t ∷ k ∷ i ∷ j ∷ [])) r₂ o₂
+rank_put f n t k i j {p = p} {q = q} a b e g h =
+    put_is (ap (λ (x : List ℕ). format x (n ∷ t ∷ k ∷ i ∷ j ∷ [])) e ∙ ranked_is n t k i j p q g h) (a then b.put)
 
 -- nothing said
-pub puts_none : {S : Said → Type 0} {s o : List ℕ} {site at : ℕ} → S Nothing → PutsSaid S s site o at at o
+pub puts_none : {S : Option Said → Type 0} {s o : List ℕ} {site at : ℕ} → S None → PutsSaid S s site o at at o
 unfolding saying_text saying_of
-puts_none p = record { said = Nothing; says = p; put = put_none refl }
+puts_none p = record { said = None; says = p; put = put_none refl }
 
 -- what is said of a priority
 module _ (s o o' : List ℕ) (at r n t k i j : ℕ) where
   abbrev ToldRank : Type 0
-  ToldRank = Put o at (saying_text 14 (saying_of s (Line (Name n) (Name t) (Number k) (Number i) (Number j) blame.Nothing))) r o'
+  ToldRank = Put o at (saying_text 14 (saying_of s (line (Name n) (Name t) (Number k) (Number i) (Number j) (Ok tt)))) r o'
 
   pub told_rank : Put o at (format (site_form 14) (text_at s n ∷ text_at s t ∷ decimal k ∷ decimal i ∷ decimal j ∷ [])) r o' → ToldRank
   unfolding saying_text saying_of shown blame_of blame_text
@@ -150,7 +138,7 @@ module _ (s o o' : List ℕ) (site at r n t i j : ℕ) where
   Formed k = Put o at (format (site_form k) (text_at s n ∷ text_at s t ∷ decimal i ∷ decimal j ∷ [] ∷ [])) r o'
 
   abbrev Told : Type 0
-  Told = Put o at (saying_text site (saying_of s (Line (Name n) (Name t) (Number i) (Number j) Blank blame.Nothing))) r o'
+  Told = Put o at (saying_text site (saying_of s (line (Name n) (Name t) (Number i) (Number j) Blank (Ok tt)))) r o'
 
   told : (k : ℕ) → site ≡ k → Formed k → Told
   unfolding saying_text saying_of shown blame_of blame_text

@@ -1,24 +1,24 @@
 -- What is said by site: a transition's row is found by its number, and the tables of a module have what each part asks for.
+use Rattle.std.specs.Prelude.{Option as Maybe, None}
 use Prim.Native.Nat.{ℕ, zero, suc, ◌+◌, ◌<◌, ◌≤◌}
 use mathlib.Core.Path.{◌≡◌, refl, sym, ap, subst, ◌∙◌}
+use mathlib.Core.Logic.{◌⊎◌, inl, inr}
 use mathlib.Core.List.{List}
 use mathlib.Core.Option.{Option, none}
 use native.Mathlib.Omega.{arith}
 use lib.ListN.{length, take, get_or-eq_default}
 use Rattle.reading.specs.Module.{Module}
 use Rattle.reading.specs.Transition.{Transition}
-use Rattle.typing.specs.declared.table.Found.{Found}
 use Rattle.findings.specs.Scene.{Scene, Rows, RowAt}
 use Rattle.findings.proofs.PlaceLaws.{entry_past, entry_at}
 use Rattle.text.specs.Message.{Saying, saying, sayings, of_given, of_entry, of_module, initial_said, version_said, init_said, var_said, set_said, error_next_said, error_emit_said, claim_said, formula_said, variant_said, event_said, priority_said, pair_said, id_said, clash_said}
 use Rattle.text.specs.Said.{saying_of}
 use Rattle.text.specs.Says.{WithNames, WithClaims, WithFormulas, WithStates, WithRows, WithOwn, Tables, Warned, Says, SaysState, SaysNext, SaysSet, SaysId, SaysClash, SaysPriority, SaysPair, SaysJudged, SaysOwn, SaysPlain, SaysWarning}
 use Rattle.text.specs.declared.said.Said.{Said}
-use Rattle.text.specs.declared.said.Said.TheVariants.{Nothing}
 
 -- past the last transition nothing is said; what is said of one that is there is said of its row
 module _ (s rows : List ℕ) {count i : ℕ} (ts : List Transition) (many : count ≡ length ts) (f : Transition → Option Saying) where
-  no_row : count ≤ i → saying_of s Nothing ≡ of_entry ts i f
+  no_row : count ≤ i → saying_of s None ≡ of_entry ts i f
   unfolding saying_of of_given
   no_row h = rw (entry_past ts i (omega arith))
 
@@ -28,41 +28,41 @@ module _ (s rows : List ℕ) {count i : ℕ} (ts : List Transition) (many : coun
 
 module _ (s places rows : List ℕ) (count i : ℕ) where
   module _ (h : count ≤ i) where
-    pub id_past : Says (WithRows s places rows count) s (id_said i) Nothing
+    pub id_past : Says (WithRows s places rows count) s (id_said i) None
     id_past = record { of = λ m g. no_row s rows m.transitions g.1.1 _ h }
 
-    pub clash_past : Says (WithRows s places rows count) s (clash_said i) Nothing
+    pub clash_past : Says (WithRows s places rows count) s (clash_said i) None
     clash_past = record { of = λ m g. no_row s rows m.transitions g.1.1 _ h }
 
-    pub set_past : (j : ℕ) → Says (WithRows s places rows count) s (set_said i j) Nothing
+    pub set_past : (j : ℕ) → Says (WithRows s places rows count) s (set_said i j) None
     set_past j = record { of = λ m g. no_row s rows m.transitions g.1.1 _ h }
 
-    pub priority_past : (j : ℕ) → Says (WithRows s places rows count) s (priority_said i j) Nothing
+    pub priority_past : (j : ℕ) → Says (WithRows s places rows count) s (priority_said i j) None
     priority_past j = record { of = λ m g. no_row s rows m.transitions g.1.1 _ h }
 
-    pub pair_past : (j : ℕ) → Says (WithRows s places rows count) s (pair_said i j) Nothing
+    pub pair_past : (j : ℕ) → Says (WithRows s places rows count) s (pair_said i j) None
     pair_past j = record { of = λ m g. no_row s rows m.transitions g.1.1 _ h }
 
   module _ (h : i < count) where
-    pub id_there : {r : Said} → SaysId s places rows i r → Says (WithRows s places rows count) s (id_said i) r
+    pub id_there : {r : Maybe Said} → SaysId s places rows i r → Says (WithRows s places rows count) s (id_said i) r
     id_there p = record { of = λ m g. in_row s rows m.transitions g.1.1 _ h g.1.0 λ t w. p.of m t g.0 w }
 
-    pub clash_there : {r : Said} → SaysClash s places rows i r → Says (WithRows s places rows count) s (clash_said i) r
+    pub clash_there : {r : Maybe Said} → SaysClash s places rows i r → Says (WithRows s places rows count) s (clash_said i) r
     clash_there p = record { of = λ m g. in_row s rows m.transitions g.1.1 _ h g.1.0 λ t w. p.of m t g.0 w }
 
-    pub set_there : (j : ℕ) {r : Said} → SaysSet s places rows i j r → Says (WithRows s places rows count) s (set_said i j) r
+    pub set_there : (j : ℕ) {r : Maybe Said} → SaysSet s places rows i j r → Says (WithRows s places rows count) s (set_said i j) r
     set_there j p = record { of = λ m g. in_row s rows m.transitions g.1.1 _ h g.1.0 λ t w. p.of m t g.0 w }
 
     -- and transition j
     module _ (j : ℕ) where
       module _ (l : count ≤ j) where
-        pub priority_alone : Says (WithRows s places rows count) s (priority_said i j) Nothing
+        pub priority_alone : Says (WithRows s places rows count) s (priority_said i j) None
         priority_alone = record { of = λ m g. in_row s rows m.transitions g.1.1 _ h g.1.0 λ t w. no_row s rows m.transitions g.1.1 _ l }
 
-        pub pair_alone : Says (WithRows s places rows count) s (pair_said i j) Nothing
+        pub pair_alone : Says (WithRows s places rows count) s (pair_said i j) None
         pair_alone = record { of = λ m g. in_row s rows m.transitions g.1.1 _ h g.1.0 λ t w. no_row s rows m.transitions g.1.1 _ l }
 
-      module _ (l : j < count) {r : Said} where
+      module _ (l : j < count) {r : Maybe Said} where
         pub priority_there : SaysPriority s places rows i j r → Says (WithRows s places rows count) s (priority_said i j) r
         priority_there p = record {
           of = λ m g. in_row s rows m.transitions g.1.1 _ h g.1.0 λ t w.
@@ -76,7 +76,7 @@ module _ (s places rows : List ℕ) (count i : ℕ) where
         }
 
 -- what is said at site n
-says_at : (H : Module → Type 0) (s : List ℕ) (site i j : ℕ) {r : Said} (n : ℕ) → site ≡ n → Says H s (saying n i j) r → Says H s (saying site i j) r
+says_at : (H : Module → Type 0) (s : List ℕ) (site i j : ℕ) {r : Maybe Said} (n : ℕ) → site ≡ n → Says H s (saying n i j) r → Says H s (saying site i j) r
 says_at H s site i j {r} n q = subst (λ (k : ℕ). Says H s (saying k i j) r) (sym q)
 
 -- a number from k on is k, or greater
@@ -96,13 +96,13 @@ module _ (s places rows : List ℕ) (count : ℕ) (vars enums : List ℕ) (site 
   abbrev Own : Module → Type 0
   Own = WithOwn s places rows count vars enums
 
-  pub own_past : count ≤ i → SaysOwn Own s site i j Nothing
+  pub own_past : count ≤ i → SaysOwn Own s site i j None
   unfolding saying
   own_past h =
-      let x : (n : ℕ) (f : Module → Transition → Option Saying) → ((m : Module) → saying n i j m ≡ of_entry m.transitions i (f m)) → Says Own s (saying n i j) Nothing = λ n f e. record { of = λ m g. no_row s rows m.transitions g.0.1.1 (f m) h ∙ sym (e m) } in
-      record { of = from_6_to_13 (λ (n : ℕ). Says Own s (saying n i j) Nothing) (x 6 _ λ m. refl) (x 7 _ λ m. refl) (x 8 _ λ m. refl) (x 9 _ λ m. refl) (x 10 _ λ m. refl) (x 11 _ λ m. refl) (x 12 _ λ m. refl) (x 13 _ λ m. refl) site }
+      let x : (n : ℕ) (f : Module → Transition → Option Saying) → ((m : Module) → saying n i j m ≡ of_entry m.transitions i (f m)) → Says Own s (saying n i j) None = λ n f e. record { of = λ m g. no_row s rows m.transitions g.0.1.1 (f m) h ∙ sym (e m) } in
+      record { of = from_6_to_13 (λ (n : ℕ). Says Own s (saying n i j) None) (x 6 _ λ m. refl) (x 7 _ λ m. refl) (x 8 _ λ m. refl) (x 9 _ λ m. refl) (x 10 _ λ m. refl) (x 11 _ λ m. refl) (x 12 _ λ m. refl) (x 13 _ λ m. refl) site }
 
-  module _ (h : i < count) {r : Said} where
+  module _ (h : i < count) {r : Maybe Said} where
     own_site : (n : ℕ) → site ≡ n → Says Own s (saying n i j) r → SaysOwn Own s site i j r
     own_site n q p = record { of = λ l u. says_at Own s site i j n q p }
 
@@ -138,16 +138,12 @@ abbrev pub Apart : Type 0 → ℕ → ℕ → ℕ → Type 0
 Apart B a zero x = B
 Apart B a (suc k) x = Apart B a k x × (x ≡ a + k → ⊥)
 
-apart_before : (B : Type 0) (a k x : ℕ) → Apart B a k x → B
-apart_before B a zero x h = h
-apart_before B a (suc k) x h = apart_before B a k x h.0
-
 apart_past : (B : Type 0) (a k x : ℕ) → a ≤ x → Apart B a k x → a + k ≤ x
 apart_past B a zero x l h = omega arith
 apart_past B a (suc k) x l h = let q = apart_past B a k x l h.0 in let n = h.1 in omega arith
 
 -- all tables have those that a warning needs, and those the places of the transitions' fields
-module _ {s places rows : List ℕ} {count : ℕ} {found : Found} {m : Module} where
+module _ {s places rows : List ℕ} {count : ℕ} {found : Maybe ℕ} {m : Module} where
   pub warned : {names enums properties : List ℕ} → Tables s places rows count found names enums properties m → Warned s places rows count found m
   warned g = record { scene = g.scene; rows_are = g.rows_are; count_is = g.count_is; states_at = g.states_at }
 
@@ -155,15 +151,15 @@ module _ {s places rows : List ℕ} {count : ℕ} {found : Found} {m : Module} w
   with_rows g = (g.scene, (g.rows_are, g.count_is))
 
 -- warnings
-module _ (s places rows : List ℕ) (count : ℕ) (found : Found) (site i j : ℕ) where
+module _ (s places rows : List ℕ) (count : ℕ) (found : Maybe ℕ) (site i j : ℕ) where
   abbrev Warning : Module → Type 0
   Warning = Warned s places rows count found
 
-  pub warning_none : Apart (Unit {0}) 21 6 site → SaysWarning Warning s site i j Nothing
+  pub warning_none : Apart (Unit {0}) 21 6 site → SaysWarning Warning s site i j None
   unfolding saying saying_of
   warning_none h = record { of = λ l. record { of = λ m g. sym (get_or-eq_default (sayings m i j) none (apart_past (Unit {0}) 21 6 site l h)) } }
 
-  module _ {r : Said} where
+  module _ {r : Maybe Said} where
     warning_site : (n : ℕ) → site ≡ n → Says Warning s (saying n i j) r → SaysWarning Warning s site i j r
     warning_site n q p = record { of = λ l. says_at Warning s site i j n q p }
 
@@ -192,28 +188,24 @@ module _ (s places rows : List ℕ) (count : ℕ) (found : Found) (site i j : �
     warning_26 q p = warning_site 26 q (record { of = λ m g. p.of m (with_rows g) })
 
 -- every site but 6 to 13
-module _ (s places rows : List ℕ) (count : ℕ) (found : Found) (names enums properties : List ℕ) (site i j : ℕ) where
+module _ (s places rows : List ℕ) (count : ℕ) (found : Maybe ℕ) (names enums properties : List ℕ) (site i j : ℕ) where
   abbrev All : Module → Type 0
   All = Tables s places rows count found names enums properties
 
-  plain_site : {r : Said} (n : ℕ) → site ≡ n → Says All s (saying n i j) r → SaysPlain All s site i j r
+  plain_site : {r : Maybe Said} (n : ℕ) → site ≡ n → Says All s (saying n i j) r → SaysPlain All s site i j r
   plain_site n q p =
       let x = says_at All s site i j n q p in
       record { below = λ l. x; above = λ l. x }
 
-  pub plain_0 : site ≡ 0 → SaysPlain All s site i j Nothing
+  pub plain_0 : site ≡ 0 → SaysPlain All s site i j None
   unfolding saying saying_of
   plain_0 q = plain_site 0 q (record { of = λ m g. refl })
 
-  module _ {r : Said} where
-    module _ (p : Says (Scene s places) s of_module r) where
-      pub plain_1 : site ≡ 1 → SaysPlain All s site i j r
-      unfolding saying
-      plain_1 q = plain_site 1 q (record { of = λ m g. p.of m g.scene })
-
-      pub plain_3 : site ≡ 3 → SaysPlain All s site i j r
-      unfolding saying
-      plain_3 q = plain_site 3 q (record { of = λ m g. p.of m g.scene })
+  module _ {r : Maybe Said} where
+    pub plain_module : (site ≡ 1) ⊎ (site ≡ 3) → Says (Scene s places) s of_module r → SaysPlain All s site i j r
+    unfolding saying
+    plain_module (inl q) p = plain_site 1 q (record { of = λ m g. p.of m g.scene })
+    plain_module (inr q) p = plain_site 3 q (record { of = λ m g. p.of m g.scene })
 
     pub plain_2 : site ≡ 2 → Says (Scene s places) s initial_said r → SaysPlain All s site i j r
     unfolding saying
@@ -243,36 +235,30 @@ module _ (s places rows : List ℕ) (count : ℕ) (found : Found) (names enums p
     unfolding saying
     plain_17 q p = plain_site 17 q (record { of = λ m g. p.of m (g.scene, g.agree) })
 
-    module _ (p : Says (WithClaims s places properties) s (claim_said i) r) where
-      pub plain_18 : site ≡ 18 → SaysPlain All s site i j r
-      unfolding saying
-      plain_18 q = plain_site 18 q (record { of = λ m g. p.of m (g.scene, g.claims_are) })
-
-      pub plain_20 : site ≡ 20 → SaysPlain All s site i j r
-      unfolding saying
-      plain_20 q = plain_site 20 q (record { of = λ m g. p.of m (g.scene, g.claims_are) })
+    pub plain_claim : (site ≡ 18) ⊎ (site ≡ 20) → Says (WithClaims s places properties) s (claim_said i) r → SaysPlain All s site i j r
+    unfolding saying
+    plain_claim (inl q) p = plain_site 18 q (record { of = λ m g. p.of m (g.scene, g.claims_are) })
+    plain_claim (inr q) p = plain_site 20 q (record { of = λ m g. p.of m (g.scene, g.claims_are) })
 
     pub plain_19 : site ≡ 19 → Says (WithFormulas s places properties names enums) s (formula_said i) r → SaysPlain All s site i j r
     unfolding saying
     plain_19 q p = plain_site 19 q (record { of = λ m g. p.of m ((g.scene, g.agree), (g.scene, g.claims_are)) })
 
-    pub plain_warning : Apart (Apart (Unit {0}) 0 6 site) 14 7 site → SaysWarning (Warned s places rows count found) s site i j r → SaysPlain All s site i j r
-    plain_warning h p =
-        let Six : Type 0 = Apart (Unit {0}) 0 6 site in
-        record {
-          below = λ l. absurd (let q = apart_past (Unit {0}) 0 6 site (omega arith) (apart_before Six 14 7 site h) in omega arith);
-          above = λ l. record { of = λ m g. (p.of (apart_past Six 14 7 site l h)).of m (warned g) };
-        }
+    pub plain_warning : 5 < site → (14 ≤ site → 21 ≤ site) → SaysWarning (Warned s places rows count found) s site i j r → SaysPlain All s site i j r
+    plain_warning l f p = record {
+      below = λ h. absurd (omega arith);
+      above = λ h. record { of = λ m g. (p.of (f h)).of m (warned g) };
+    }
 
 -- every site, by the block of the table that has the variables
-module _ (s places rows : List ℕ) (count : ℕ) (found : Found) (table enums properties : List ℕ) (site i j : ℕ) where
+module _ (s places rows : List ℕ) (count : ℕ) (found : Maybe ℕ) (table enums properties : List ℕ) (site i j : ℕ) where
   abbrev Whole : Module → Type 0
   Whole = Tables s places rows count found (take 829 table) enums properties
 
-  pub says_own : {r : Said} → 6 ≤ site → site ≤ 13 → SaysOwn (WithOwn s places rows count (take 829 table) enums) s site i j r → Says Whole s (saying site i j) r
+  pub says_own : {r : Maybe Said} → 6 ≤ site → site ≤ 13 → SaysOwn (WithOwn s places rows count (take 829 table) enums) s site i j r → Says Whole s (saying site i j) r
   says_own l u p = record { of = λ m g. (p.of l u).of m (with_rows (warned g), g.agree) }
 
-  module _ {r : Said} (p : SaysPlain Whole s site i j r) where
+  module _ {r : Maybe Said} (p : SaysPlain Whole s site i j r) where
     pub says_below : site < 6 → Says Whole s (saying site i j) r
     says_below h = p.below (omega arith)
 

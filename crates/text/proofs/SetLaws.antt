@@ -1,4 +1,5 @@
 -- What is said of an assignment and of an output, by their numbers, for whatever reads there.
+use Rattle.std.specs.Prelude.{Option, None, Some, Result, Ok, ⊤}
 use Prim.Native.Nat.{ℕ}
 use mathlib.Core.Path.{◌≡◌, refl, sym, ap, ◌∙◌}
 use mathlib.Core.List.{List}
@@ -9,25 +10,20 @@ use Rattle.reading.specs.Transition.{Assignment, Transition, read_top_expr, read
 use Rattle.reading.proofs.ExprLaws.{name_laws}
 use Rattle.reading.proofs.TransitionLaws.{assignment_laws, output_expr_laws}
 use Rattle.reading.proofs.Views.{assignment_at}
-use Rattle.typing.specs.Means.{blame_of}
+use Rattle.typing.specs.Means.{blame_of, Typed}
 use Rattle.typing.specs.Table.{after_item, after_head, Past}
 use Rattle.typing.specs.Blocks.{env_at}
 use Rattle.typing.specs.Typed.{Types}
 use Rattle.typing.specs.Blames.{JudgesOutput}
 use Rattle.typing.specs.declared.cause.Blame.{Blame}
-use Rattle.typing.specs.declared.cause.Blame.TheVariants as blame
-use Rattle.typing.specs.declared.cause.Typed.{Typed}
-use Rattle.typing.specs.declared.table.Found.{Found}
-use Rattle.typing.specs.declared.table.Found.TheVariants as found
 use Rattle.typing.proofs.Agreement.{output_agree}
 use Rattle.typing.proofs.EnvLaws.{after_is, fields_head}
 use Rattle.findings.specs.Scene.{Reads, RowAt, outputs_in, field}
 use Rattle.text.specs.Message.{of_given}
-use Rattle.text.specs.Said.{shown, saying_of}
+use Rattle.text.specs.Said.{shown, saying_of, line}
 use Rattle.text.specs.Says.{Entry, Picked, Untyped, SaysSet, SaysValue, SaysEmit}
 use Rattle.text.specs.declared.said.Arg.TheVariants.{Blank, Name, Number}
 use Rattle.text.specs.declared.said.Said.{Said}
-use Rattle.text.specs.declared.said.Said.TheVariants.{Nothing, Line}
 use Rattle.text.proofs.EntryReads.{entry_picked, entry_nothing, entry_given}
 use Rattle.text.proofs.LineLaws.{reads_there, line_says, name_shown, module_shown}
 use Rattle.text.proofs.GuardLaws.{expr_blame}
@@ -45,15 +41,15 @@ value_there {s} {k} {a} r h p =
 
 module _ (s places rows : List ℕ) (i : ℕ) where
   -- assignment j
-  module _ (j : ℕ) {at : ℕ} (h : at ≡ field rows i 6) {f : Found} (p : Picked max_list s at j f) where
+  module _ (j : ℕ) {at : ℕ} (h : at ≡ field rows i 6) {f : Option ℕ} (p : Picked max_list s at j f) where
     set_entry : {t : Transition} → RowAt s rows i t → Entry read_assignment s f (get_elem? t.assignments j)
     set_entry w = entry_picked assignment_laws s p (reads_there h w.assignments_are)
 
-    pub set_none : f ≡ found.Nothing → SaysSet s places rows i j Nothing
+    pub set_none : f ≡ None → SaysSet s places rows i j None
     unfolding of_given saying_of
     set_none q = record { of = λ m t y w. rw (entry_nothing (set_entry w) q) }
 
-    pub set_said_lem : {k var a : ℕ} {r : Said} → f ≡ found.At k → var ≡ after_head s k → a ≡ get_or places 0 0 → r ≡ Line (Name a) (Number i) (Name var) Blank Blank blame.Nothing → SaysSet s places rows i j r
+    pub set_said_lem : {k var a : ℕ} {r : Option Said} → f ≡ Some k → var ≡ after_head s k → a ≡ get_or places 0 0 → r ≡ line (Name a) (Number i) (Name var) Blank Blank (Ok tt) → SaysSet s places rows i j r
     unfolding of_given shown blame_of
     set_said_lem q x g l = record {
       of = λ m t y w.
@@ -62,11 +58,11 @@ module _ (s places rows : List ℕ) (i : ℕ) where
     }
 
     module _ (names enums : List ℕ) where
-      pub value_none : f ≡ found.Nothing → SaysValue s places rows i names enums j Nothing
+      pub value_none : f ≡ None → SaysValue s places rows i names enums j None
       unfolding of_given saying_of
       value_none q = record { of = λ m t y w n. rw (entry_nothing (set_entry w) q) }
 
-      pub value_said_lem : {k var value a : ℕ} {d : Typed} {b : Blame} {r : Said} → f ≡ found.At k → var ≡ after_head s k → Past s var value → Types (env_at s names enums) max_depth s value d → Untyped s d b → a ≡ get_or places 0 0 → r ≡ Line (Name a) (Number i) (Name var) Blank Blank b → SaysValue s places rows i names enums j r
+      pub value_said_lem : {k var value a : ℕ} {d : Typed} {b : Result ⊤ Blame} {r : Option Said} → f ≡ Some k → var ≡ after_head s k → Past s var value → Types (env_at s names enums) max_depth s value d → Untyped s d b → a ≡ get_or places 0 0 → r ≡ line (Name a) (Number i) (Name var) Blank Blank b → SaysValue s places rows i names enums j r
       unfolding of_given shown
       value_said_lem q x z e u g l = record {
         of = λ m t y w n.
@@ -75,15 +71,15 @@ module _ (s places rows : List ℕ) (i : ℕ) where
       }
 
   -- output j
-  module _ (j : ℕ) {at : ℕ} (h : at ≡ field rows i 5) {f : Found} (p : Picked max_list s at j f) (names enums : List ℕ) where
+  module _ (j : ℕ) {at : ℕ} (h : at ≡ field rows i 5) {f : Option ℕ} (p : Picked max_list s at j f) (names enums : List ℕ) where
     emit_entry : {t : Transition} → RowAt s rows i t → Entry read_output_expr s f (get_elem? t.emits j)
     emit_entry w = entry_picked output_expr_laws s p (reads_there h w.emits_are)
 
-    pub emit_none : f ≡ found.Nothing → SaysEmit s places rows i names enums j Nothing
+    pub emit_none : f ≡ None → SaysEmit s places rows i names enums j None
     unfolding of_given saying_of
     emit_none q = record { of = λ m t y w n. rw (entry_nothing (emit_entry w) q) }
 
-    pub emit_said_lem : {k a : ℕ} {outputs : List ℕ} {b : Blame} {r : Said} → f ≡ found.At k → outputs ≡ outputs_in places → JudgesOutput (env_at s names enums) s k outputs b → a ≡ get_or places 0 0 → r ≡ Line (Name a) (Number i) Blank Blank Blank b → SaysEmit s places rows i names enums j r
+    pub emit_said_lem : {k a : ℕ} {outputs : List ℕ} {b : Result ⊤ Blame} {r : Option Said} → f ≡ Some k → outputs ≡ outputs_in places → JudgesOutput (env_at s names enums) s k outputs b → a ≡ get_or places 0 0 → r ≡ line (Name a) (Number i) Blank Blank Blank b → SaysEmit s places rows i names enums j r
     unfolding of_given shown
     emit_said_lem q x e g l = record {
       of = λ m t y w n.

@@ -1,33 +1,44 @@
 -- The form of a site, and of none.
-use Prim.Native.Nat.{ℕ, ◌+◌, ◌≤◌}
+use Prim.Native.Nat.{ℕ, zero, suc, ◌≤◌}
+use mathlib.Core.Path.{◌≡◌, refl, sym}
+use mathlib.Core.List.{List, [], ◌∷◌, map}
 use native.Mathlib.Omega.{arith}
-use mathlib.Core.Path.{◌≡◌, ap}
-use mathlib.Core.List.{List, []}
-use lib.ListN.{get_or-eq_default}
-use Rattle.text.specs.Form.{format}
-use Rattle.text.specs.Put.{Put}
+use mathlib.Core.Bool.{Bool, true, false, cond}
+use lib.Dec.{leb}
+use borrow.Author.Tests.{leb-true}
+use lib.ListN.{length, get_or, get_or-eq_default}
+use denote.Bor.{Bor}
 use Rattle.text.specs.Message.{forms, site_form}
-use Rattle.text.proofs.PutLaws.{put_is, put_none}
 
--- a form put at its own site
-pub at_site : {o o' : List ℕ} {at r site : ℕ} (as' : List (List ℕ)) (k : ℕ) → site ≡ k → Put o at (format (site_form k) as') r o' → Put o at (format (site_form site) as') r o'
-at_site as' k e p = put_is (ap (λ (z : ℕ). format (site_form z) as') e) p
+get_or_map : {A B : Type 0} (f : A → B) (xs : List A) (i : ℕ) (d : A) → f (get_or xs i d) ≡ get_or (map f xs) i (f d)
+get_or_map f [] i d = refl
+get_or_map f (x ∷ xs) zero d = refl
+get_or_map f (x ∷ xs) (suc i) d = get_or_map f xs i d
 
--- one that is none of the sites before
-pub least : (site : ℕ) → 0 ≤ site
-least site = omega arith
-
-pub up : (k : ℕ) {site : ℕ} → k ≤ site → (site ≡ k → ⊥) → k + 1 ≤ site
-up k h n = omega arith
-
-pub at_last : {o o' : List ℕ} {at r site : ℕ} (as' : List (List ℕ)) (k : ℕ) → k ≤ site → site ≤ k → Put o at (format (site_form k) as') r o' → Put o at (format (site_form site) as') r o'
-at_last as' k l h p = at_site as' k (omega arith) p
+-- the form at a place of a table
+pub form_in : (table : List (Bor (List ℕ))) (i : ℕ) (d : Bor (List ℕ)) → (get_or table i d).now ≡ get_or (map (λ (b : Bor (List ℕ)). b.now) table) i d.now
+form_in table i d = get_or_map (λ (b : Bor (List ℕ)). b.now) table i d
 
 -- no form
-pub no_site : {o : List ℕ} {at site : ℕ} (as' : List (List ℕ)) → site ≡ 0 → Put o at (format (site_form site) as') at o
-unfolding site_form format
-no_site as' e = put_none (rw e)
+pub past_sites : {site : ℕ} → 27 ≤ site → [] ≡ site_form site
+unfolding site_form
+past_sites h = sym (get_or-eq_default forms [] h)
 
-pub past_sites : {o : List ℕ} {at site : ℕ} (as' : List (List ℕ)) → 27 ≤ site → Put o at (format (site_form site) as') at o
-unfolding site_form format
-past_sites as' h = put_none (ap (λ (t : List ℕ). format t as') (get_or-eq_default forms [] h))
+-- no form is long
+unfoldable all_short : List (List ℕ) → Bool
+all_short [] = true
+all_short (f ∷ fs) = cond (leb (length f) 0xfff) (all_short fs) false
+
+short_in : (fs : List (List ℕ)) (i : ℕ) → all_short fs ≡ true → length (get_or fs i []) ≤ 0xfff
+unfolding all_short
+short_in [] i h = omega arith
+short_in (f ∷ fs) i h = go (λ j g. short_in fs j g) (leb (length f) 0xfff) refl i
+  where
+    go : ((j : ℕ) → all_short fs ≡ true → length (get_or fs j []) ≤ 0xfff) → (b : Bool) → leb (length f) 0xfff ≡ b → (j : ℕ) → length (get_or (f ∷ fs) j []) ≤ 0xfff
+    go k false e j = absurd (let z : ◌≡◌ {A = ℕ} 0 1 = cc in omega arith)
+    go k true e zero = leb-true (length f) 0xfff e
+    go k true e (suc j) = k j (rw e at h)
+
+pub short_form : (site : ℕ) → length (site_form site) ≤ 0xfff
+unfolding all_short site_form
+short_form site = short_in forms site refl

@@ -1,4 +1,5 @@
 -- The message of a finding, by its words: its module among all, the tables of that module, and what is said by them.
+use Rattle.std.specs.Prelude.{Option as Maybe, None, Some}
 use Prim.Native.Nat.{ℕ, ◌+◌, ◌-◌}
 use mathlib.Core.Path.{◌≡◌, refl, sym, ap, ◌∙◌}
 use mathlib.Core.List.{List}
@@ -11,8 +12,6 @@ use Rattle.reading.proofs.ItemLaws.{number_laws}
 use Rattle.reading.proofs.ModuleLaws.{version_agrees, module_laws}
 use Rattle.reading.proofs.Views.{document_at, ir_at}
 use Rattle.typing.specs.Table.{after_item, after_head, Past}
-use Rattle.typing.specs.declared.table.Found.{Found}
-use Rattle.typing.specs.declared.table.Found.TheVariants as found
 use Rattle.typing.proofs.EnvLaws.{after_is, fields_head}
 use Rattle.findings.specs.Mentions.{states}
 use Rattle.findings.specs.Scene.{Opens}
@@ -25,21 +24,19 @@ use Rattle.text.specs.Said.{saying_of}
 use Rattle.text.specs.Says.{passed, Says, Tables, Named, SaysIn, ModuleAt, SaysWords}
 use Rattle.text.specs.Near.{Kept, PickedFrom, KeptModule, PickedModule}
 use Rattle.text.specs.declared.entry.Near.{Near}
-use Rattle.text.specs.declared.entry.Near.TheVariants as nears
 use Rattle.text.specs.declared.said.Said.{Said}
-use Rattle.text.specs.declared.said.Said.TheVariants.{Nothing}
 use Rattle.text.proofs.LineLaws.{reads_there}
 use Rattle.text.proofs.EntryLaws.{passed_both, up_here}
 use Rattle.text.proofs.EntryReads.{entry_picked, entry_nothing, entry_given}
 
 -- the words of the tables that are in use
-pub named_said : (s places rows : List ℕ) (count : ℕ) (known : Ready) (table enums properties : List ℕ) {X : Module → Option Saying} {r : Said} → Says (Tables s places rows count known.found (take 829 table) enums (take (known.claims - 0) properties)) s X r → Says (Named s places rows count known table enums properties) s X r
+pub named_said : (s places rows : List ℕ) (count : ℕ) (known : Ready) (table enums properties : List ℕ) {X : Module → Option Saying} {r : Maybe Said} → Says (Tables s places rows count known.found (take 829 table) enums (take (known.claims - 0) properties)) s X r → Says (Named s places rows count known table enums properties) s X r
 named_said s places rows count known table enums properties h =
     let j : known.claims - 0 ≡ known.claims = omega arith in
     rw j at h
 
 -- the tables are those of the module
-pub opened_said : (s : List ℕ) (at site i j : ℕ) {places rows table enums properties : List ℕ} {l : Listed} {known : Ready} {r : Said} → Opens s at l places rows → FirstStates s (get_or places 3 0) known.found → Names s places known.claims table enums properties → Says (Named s places rows l.count known table enums properties) s (saying site i j) r → SaysIn s at site i j r
+pub opened_said : (s : List ℕ) (at site i j : ℕ) {places rows table enums properties : List ℕ} {l : Listed} {known : Ready} {r : Maybe Said} → Opens s at l places rows → FirstStates s (get_or places 3 0) known.found → Names s places known.claims table enums properties → Says (Named s places rows l.count known table enums properties) s (saying site i j) r → SaysIn s at site i j r
 unfolding states
 opened_said s at site i j x y z w = record {
   of = λ m n g.
@@ -59,10 +56,10 @@ opened_said s at site i j x y z w = record {
 pub modules_there : (s : List ℕ) {version modules : ℕ} → version ≡ after_head s 0 → Past s version modules → Past s (after_head s 0) modules
 modules_there s e t = rw e at t
 
-pub module_picked : (s : List ℕ) (k : ℕ) {near : Near} {modules : ℕ} {f : Found} → Past s (after_head s 0) modules → KeptModule s near → PickedFrom near max_modules s modules k f → PickedModule s k f
+pub module_picked : (s : List ℕ) (k : ℕ) {near : Maybe Near} {modules : ℕ} {f : Maybe ℕ} → Past s (after_head s 0) modules → KeptModule s near → PickedFrom near max_modules s modules k f → PickedModule s k f
 module_picked s k t h p = record { of = λ x n g. rw (sym t.is) (p.of (h.of x n g)) }
 
-module_found : (s : List ℕ) (k : ℕ) {f : Found} → PickedModule s k f → ModuleAt s k f
+module_found : (s : List ℕ) (k : ℕ) {f : Maybe ℕ} → PickedModule s k f → ModuleAt s k f
 module_found s k p = record {
   of = λ x n g.
       let t = p.of x n g in
@@ -73,7 +70,7 @@ module_found s k p = record {
 }
 
 -- the module after one that was opened stands at its end
-pub module_next : (s : List ℕ) (k : ℕ) {at : ℕ} {l : Listed} {places rows : List ℕ} {near : Near} → PickedModule s k (found.At at) → Opens s at l places rows → near ≡ nears.Entry (after_item s (after_head s 0)) (k + 1) l.end → KeptModule s near
+pub module_next : (s : List ℕ) (k : ℕ) {at : ℕ} {l : Listed} {places rows : List ℕ} {near : Near} → PickedModule s k (Some at) → Opens s at l places rows → near ≡ record { list = after_item s (after_head s 0); number = k + 1; place = l.end } → KeptModule s (Some near)
 unfolding Kept passed
 module_next s k {at} p o e = rw e (record {
   of = λ x n g.
@@ -90,12 +87,12 @@ module_next s k {at} p o e = rw e (record {
 })
 
 -- what is said in the module that a finding names
-module _ (s : List ℕ) (owner site i j : ℕ) {f : Found} (g : PickedModule s owner f) where
-  pub words_none : f ≡ found.Nothing → SaysWords s owner site i j Nothing
+module _ (s : List ℕ) (owner site i j : ℕ) {f : Maybe ℕ} (g : PickedModule s owner f) where
+  pub words_none : f ≡ None → SaysWords s owner site i j None
   unfolding saying_of saying_text message_of in_owner
   words_none q = record { of = λ x n c h. rw (entry_nothing ((module_found s owner g).of x n h) q) }
 
-  pub words_said : {at : ℕ} {r : Said} → f ≡ found.At at → SaysIn s at site i j r → SaysWords s owner site i j r
+  pub words_said : {at : ℕ} {r : Maybe Said} → f ≡ Some at → SaysIn s at site i j r → SaysWords s owner site i j r
   unfolding message_of in_owner note_text
   words_said q w = record {
     of = λ x n c h.

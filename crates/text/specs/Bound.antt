@@ -1,6 +1,6 @@
 -- The names that a transition sees, in a table whose first block has the module's variables: those, and what its pattern binds. A table keeps them
 -- from one message of the transition to the next.
-use Rattle.std.specs.Prelude.{ℕ, ◌≤◌, ◌≡◌, List, take}
+use Rattle.std.specs.Prelude.{ℕ, ◌≤◌, ◌≡◌, List, take, Option, Some, None}
 use Rattle.reading.specs.Transition.{Transition}
 use Rattle.reading.specs.Module.{Module}
 use Rattle.typing.specs.Env.{for_module, with_bindings, Agree}
@@ -8,7 +8,6 @@ use Rattle.typing.specs.Patterns.{validate_event_pattern}
 use Rattle.typing.specs.Blocks.{env_at}
 use Rattle.findings.specs.Scene.{Scene, RowAt}
 use Rattle.text.specs.declared.judged.Bound.{Bound}
-use Rattle.text.specs.declared.judged.Bound.TheVariants.{Row, Nothing}
 
 -- the first n words of a table have the names that transition i sees, where these are the module's variables
 pub record SeesNames (s places rows : List ℕ) (i : ℕ) (vars table : List ℕ) (n : ℕ) : Type 0 where
@@ -17,9 +16,9 @@ pub record SeesNames (s places rows : List ℕ) (i : ℕ) (vars table : List ℕ
   pub of : (m : Module) (t : Transition) (enums : List ℕ) → Scene s places m → RowAt s rows i t → Agree (env_at s vars enums) (for_module m) → Agree (env_at s (take n table) enums) (with_bindings (validate_event_pattern m.events t.pattern).bound (for_module m))
 
 -- a table has those of the transition judged last, if one was
-unfoldable pub BoundTo : List ℕ → List ℕ → List ℕ → List ℕ → Bound → Type 0
-BoundTo s places rows table (Row i n) = SeesNames s places rows i (take 829 table) table n
-BoundTo s places rows table Nothing = Unit {0}
+unfoldable pub BoundTo : List ℕ → List ℕ → List ℕ → List ℕ → Option Bound → Type 0
+BoundTo s places rows table (Some b) = SeesNames s places rows b.row (take 829 table) table b.names
+BoundTo s places rows table None = Unit {0}
 
 -- a site whose message is put piece by piece, and needs no pattern to be judged: 5, 11, 14, 15, 17 to 19, and those of warnings
 abbrev pub Straight : ℕ → Type 0

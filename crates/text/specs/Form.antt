@@ -23,6 +23,11 @@ format [] as' = []
 format (c ∷ t) as' =
     cond (eqb c 123) (next as' ++ format t (rest as')) (cond (eqb c 125) (format t as') (c ∷ format t as'))
 
+-- no byte of a text is a brace
+abbrev pub plain : List ℕ → Bool
+plain [] = true
+plain (c ∷ p) = cond (eqb c 123) false (cond (eqb c 125) false (plain p))
+
 -- from place i to place r a form has no brace
 pub record Plain (t : List ℕ) (i r : ℕ) : Type 0 where
   pub formed : (as' : List (List ℕ)) → format (drop i t) as' ≡ take (r - i) (drop i t) ++ format (drop r t) as'

@@ -9,22 +9,21 @@ use crate::blame::unfit;
 use crate::entry::{Near, entry_at};
 use crate::said::{Arg, Said, two};
 use findings::{events_of, outputs_of};
-use typing::{
-    Blame, Found, after, after_head, after_tag, null_at, type_formula, validate_output_expr, word,
-};
+use typing::{after, after_head, after_tag, null_at, type_formula, validate_output_expr, word};
 
 // Site 16: of where an error leads.
-pub(crate) fn say_error_next<'a>(doc: &'a [u8], places: &'a [usize]) -> Said
+#[tactic(auto, using(crate::proofs::ErrorLaws::error_next_absent, crate::proofs::ErrorLaws::error_next_said_lem))]
+pub(crate) fn say_error_next<'a>(doc: &'a [u8], places: &'a [usize]) -> Option<Said>
     ensures { Says (Scene doc.now places.now) doc.now error_next_said result }
 {
     let at = word(places, 2);
     if null_at(doc, at) {
-        return Said::Nothing;
+        return None;
     }
     two(
         Arg::Name(word(places, 0)),
         Arg::Name(after_head(doc, at)),
-        Blame::Nothing,
+        Ok(()),
     )
 }
 
@@ -35,41 +34,40 @@ pub(crate) fn say_error_emit<'a>(
     names: &'a [usize],
     enums: &'a [usize],
     i: usize,
-    near: Near,
-) -> Said
+    near: Option<Near>,
+) -> Option<Said>
     requires { Kept max_list doc.now near }
     ensures { Says (WithNames doc.now places.now names.now enums.now) doc.now (error_emit_said i) result }
 {
     let at = word(places, 2);
     if null_at(doc, at) {
-        return Said::Nothing;
+        return None;
     }
     let state = after_head(doc, at);
-    let f = entry_at(doc, after(doc, state), i, near);
-    let Found::At(k) = f else {
-        return Said::Nothing;
-    };
+    let k = entry_at(doc, after(doc, state), i, near)?;
     let w = validate_output_expr(doc, k, outputs_of(places), names, enums);
     two(Arg::Name(word(places, 0)), Arg::Blank, w)
 }
 
 // Sites 18 and 20: of property or assumption i, by the table of both.
+#[tactic(auto, using(crate::proofs::ClaimLaws::claim_absent, crate::proofs::ClaimLaws::claim_said_lem))]
 pub(crate) fn say_claim<'a>(
     doc: &'a [u8],
     places: &'a [usize],
     claims: &'a [usize],
     i: usize,
-) -> Said
+) -> Option<Said>
     ensures { Says (WithClaims doc.now places.now claims.now) doc.now (claim_said i) result }
 {
     if claims.len() / 2 <= i {
-        return Said::Nothing;
+        return None;
     }
     let name = word(claims, 2 * i);
-    two(Arg::Name(word(places, 0)), Arg::Name(name), Blame::Nothing)
+    two(Arg::Name(word(places, 0)), Arg::Name(name), Ok(()))
 }
 
 // Site 19: of its formula.
+#[tactic(auto, using(crate::proofs::ClaimLaws::formula_absent, crate::proofs::ClaimLaws::formula_said_lem))]
 pub(crate) fn say_formula<'a>(
     doc: &'a [u8],
     places: &'a [usize],
@@ -77,11 +75,11 @@ pub(crate) fn say_formula<'a>(
     names: &'a [usize],
     enums: &'a [usize],
     i: usize,
-) -> Said
+) -> Option<Said>
     ensures { Says (WithFormulas doc.now places.now claims.now names.now enums.now) doc.now (formula_said i) result }
 {
     if claims.len() / 2 <= i {
-        return Said::Nothing;
+        return None;
     }
     let name = word(claims, 2 * i);
     let formula = word(claims, 2 * i + 1);
@@ -94,32 +92,28 @@ pub(crate) fn say_formula<'a>(
 pub(crate) fn say_variant<'a>(
     doc: &'a [u8],
     places: &'a [usize],
-    found: Found,
+    found: Option<usize>,
     i: usize,
-    near: Near,
-) -> Said
+    near: Option<Near>,
+) -> Option<Said>
     requires { Kept max_list doc.now near }
     ensures { Says (WithStates doc.now places.now found) doc.now (variant_said i) result }
 {
-    let Found::At(states) = found else {
-        return Said::Nothing;
-    };
-    let f = entry_at(doc, states, i, near);
-    let Found::At(k) = f else {
-        return Said::Nothing;
-    };
-    two(Arg::Name(word(places, 0)), Arg::Name(k), Blame::Nothing)
+    let states = found?;
+    let k = entry_at(doc, states, i, near)?;
+    two(Arg::Name(word(places, 0)), Arg::Name(k), Ok(()))
 }
 
 // The place of the list of variants of event group i.
-pub(crate) fn variants_of(places: &[usize], i: usize) -> Found
+#[tactic(auto, using(crate::proofs::VariantLaws::group_found, crate::proofs::VariantLaws::no_group))]
+pub(crate) fn variants_of(places: &[usize], i: usize) -> Option<usize>
     ensures { VariantsOf places.now i result }
 {
     let groups = events_of(places);
     if i < groups.len() / 2 {
-        return Found::At(groups[2 * i + 1]);
+        return Some(groups[2 * i + 1]);
     }
-    Found::Nothing
+    None
 }
 
 // Site 22: of variant j of event group i.
@@ -128,22 +122,16 @@ pub(crate) fn say_event<'a>(
     places: &'a [usize],
     i: usize,
     j: usize,
-    near: Near,
-) -> Said
+    near: Option<Near>,
+) -> Option<Said>
     requires { Kept max_list doc.now near }
     ensures { Says (Scene doc.now places.now) doc.now (event_said i j) result }
 {
-    let g = variants_of(places, i);
-    let Found::At(variants) = g else {
-        return Said::Nothing;
-    };
-    let f = entry_at(doc, variants, j, near);
-    let Found::At(k) = f else {
-        return Said::Nothing;
-    };
+    let variants = variants_of(places, i)?;
+    let k = entry_at(doc, variants, j, near)?;
     two(
         Arg::Name(word(places, 0)),
         Arg::Name(after_tag(doc, k)),
-        Blame::Nothing,
+        Ok(()),
     )
 }

@@ -4,14 +4,15 @@ ghost use Rattle.reading.specs.Limits.{max_list};
 ghost use Rattle.text.specs.Near.{Kept, Starts, PickedFrom};
 ghost use Rattle.text.specs.Says.{Picked};
 
-use reading::{Answer, Cursor};
-use typing::{Found, after};
+use reading::Cursor;
+use typing::after;
 
 // An entry that was looked up: the place of its list, its number there, and its own place. The next is often not far behind it.
-#[derive(Clone, Copy)]
-pub enum Near {
-    Entry(usize, usize, usize),
-    Nothing,
+#[derive(Clone, Copy, Debug, PartialEq, Eq)]
+pub struct Near {
+    pub list: usize,
+    pub number: usize,
+    pub place: usize,
 }
 
 // An entry's number and its place.
@@ -22,23 +23,17 @@ pub struct Numbered {
 }
 
 // Where to look for entry k of the list at a place: from the near entry on, if it is one of the list and not past k; or from the first.
-fn start_at(near: Near, at: usize, k: usize, first: usize) -> Numbered
+#[tactic(auto, using(crate::proofs::EntryLaws::starts_near, crate::proofs::EntryLaws::starts_first))]
+fn start_at(near: Option<Near>, at: usize, k: usize, first: usize) -> Numbered
     ensures starts { Starts near at first result }
     ensures number_le_k { result.number ≤ k }
 {
     match near {
-        Near::Entry(list, number, place) => {
-            if list == at {
-                if number <= k {
-                    return Numbered { number, place };
-                }
-            }
-            Numbered {
-                number: 0,
-                place: first,
-            }
-        }
-        Near::Nothing => Numbered {
+        Some(x) if x.list == at && x.number <= k => Numbered {
+            number: x.number,
+            place: x.place,
+        },
+        _ => Numbered {
             number: 0,
             place: first,
         },
@@ -46,29 +41,33 @@ fn start_at(near: Near, at: usize, k: usize, first: usize) -> Numbered
 }
 
 // The place of entry k of the list at a place, which has at most so many.
-pub(crate) fn entry_of(doc: &[u8], at: usize, most: u64, k: usize, near: Near) -> Found
+pub(crate) fn entry_of(
+    doc: &[u8],
+    at: usize,
+    most: u64,
+    k: usize,
+    near: Option<Near>,
+) -> Option<usize>
     ensures { PickedFrom near most doc.now at k result }
 {
     let c = Cursor { at };
-    let a = c.count(doc, most);
-    let Answer::Got(many, first) = a else {
-        return Found::Nothing;
+    let Ok((many, first)) = c.count(doc, most) else {
+        return None;
     };
     if many as usize <= k {
-        return Found::Nothing;
+        return None;
     }
     let start = start_at(near, at, k, first.at);
     let mut here = start.place;
-    let mut i = start.number;
-    while i < k {
+    for _i in start.number..k {
         here = after(doc, here);
-        i += 1;
     }
-    Found::At(here)
+    Some(here)
 }
 
 // Entry k of a list that is none of modules.
-pub(crate) fn entry_at(doc: &[u8], at: usize, k: usize, near: Near) -> Found
+#[tactic(auto, using(crate::proofs::EntryLaws::picked_from))]
+pub(crate) fn entry_at(doc: &[u8], at: usize, k: usize, near: Option<Near>) -> Option<usize>
     requires { Kept max_list doc.now near }
     ensures { Picked max_list doc.now at k result }
 {
@@ -76,13 +75,15 @@ pub(crate) fn entry_at(doc: &[u8], at: usize, k: usize, near: Near) -> Found
 }
 
 // Looks up entry k of the list at a place.
-pub(crate) fn look_up(doc: &[u8], at: usize, k: usize, near: Near) -> Near
+#[tactic(auto, using(crate::proofs::EntryLaws::up_here, crate::proofs::EntryLaws::kept_none))]
+pub(crate) fn look_up(doc: &[u8], at: usize, k: usize, near: Option<Near>) -> Option<Near>
     requires { Kept max_list doc.now near }
     ensures { Kept max_list doc.now result }
 {
-    let f = entry_at(doc, at, k, near);
-    match f {
-        Found::At(place) => Near::Entry(at, k, place),
-        Found::Nothing => Near::Nothing,
-    }
+    let place = entry_at(doc, at, k, near)?;
+    Some(Near {
+        list: at,
+        number: k,
+        place,
+    })
 }

@@ -1,4 +1,7 @@
 // The message of a finding into lent bytes, by the tables of its module.
+//
+// A module's tables and a finding's words stand as parameters of their own: the contracts are about each list, and as fields of one value
+// `places.now` would read `tables.entry.places.now` in all of them. A site is a number, as in a finding's words and in the list of forms.
 ghost use Rattle.std.specs.Prelude.{◌≡◌, true, ◌+◌, ◌≤◌, length, take};
 ghost use Rattle.reading.specs.Limits.{max_list};
 ghost use Rattle.text.specs.Near.{Kept};
@@ -15,21 +18,22 @@ use crate::site::put_said;
 use crate::typed::{put_error_emit_at, put_formula_at, put_init_at};
 use crate::words::say_named;
 use findings::{Ready, field};
-use typing::{Found, after, after_head, word};
+use typing::{after, after_head, word};
 
 // Puts the message of a warning from a place on; the place after it. It needs no table of names.
+#[tactic(auto, using(crate::proofs::FindingLaws::finding_22, crate::proofs::FindingLaws::said_length, crate::proofs::FindingLaws::finding_23, crate::proofs::FindingLaws::finding_24, crate::proofs::FindingLaws::warning_put, crate::proofs::FindingLaws::put_length))]
 pub fn put_warning<'a>(
     doc: &'a [u8],
     places: &'a [usize],
     rows: &'a [usize],
     count: u8,
-    found: Found,
+    found: Option<usize>,
     site: u32,
     i: usize,
     j: usize,
     out: &mut [u8],
     at: usize,
-    near: Near,
+    near: Option<Near>,
 ) -> usize
     requires le_site { 21 ≤ site }
     requires kept { Kept max_list doc.now near }
@@ -39,42 +43,29 @@ pub fn put_warning<'a>(
     ensures out_len_unchanged { length out.new ≡ length out.old }
     ensures upper_bound { result ≤ at + 0x7b_0000 }
 {
-    if site == 22 {
-        return put_event_at(doc, places, i, j, near, out, at);
+    match site {
+        22 => put_event_at(doc, places, i, j, near, out, at),
+        23 => put_var_at(doc, places, i, near, out, at),
+        24 => put_pair_at(doc, places, rows, count, site, i, j, out, at),
+        _ => {
+            let x = say_warning(doc, places, rows, count, found, site, i, j, near);
+            put_said(out, at, doc, site, x)
+        }
     }
-    if site == 23 {
-        return put_var_at(doc, places, i, near, out, at);
-    }
-    if site == 24 {
-        return put_pair_at(doc, places, rows, count, site, i, j, out, at);
-    }
-    let x = say_warning(doc, places, rows, count, found, site, i, j, near);
-    put_said(out, at, doc, site, x)
 }
 
 // Whether a site is of what was judged in a transition, and put piece by piece.
 fn is_judged(site: u32) -> bool
     ensures { result ≡ true → (site ≡ 8 → ⊥) → (site ≡ 9 → ⊥) → (site ≡ 12 → ⊥) → site ≡ 13 }
 {
-    match site {
-        8..=9 => true,
-        12..=13 => true,
-        _ => false,
-    }
+    matches!(site, 8..=9 | 12..=13)
 }
 
 // Whether a site's message needs no pattern to be judged, and is put piece by piece.
 fn is_straight(site: u32) -> bool
     ensures { result ≡ true → Straight site }
 {
-    match site {
-        5 => true,
-        11 => true,
-        14..=15 => true,
-        17..=19 => true,
-        21..=u32::MAX => true,
-        _ => false,
-    }
+    20 < site || matches!(site, 5 | 11 | 14..=15 | 17..=19)
 }
 
 // Puts such a message from a place on; the place after it.
@@ -92,7 +83,7 @@ fn put_straight<'a>(
     j: usize,
     out: &mut [u8],
     at: usize,
-    near: Near,
+    near: Option<Near>,
 ) -> usize
     requires straight { Straight site }
     requires kept { Kept max_list doc.now near }
@@ -104,35 +95,26 @@ fn put_straight<'a>(
     ensures out_len_unchanged { length out.new ≡ length out.old }
     ensures upper_bound { result ≤ at + 0x7b_0000 }
 {
-    if 20 < site {
-        let found = known.found;
-        return put_warning(doc, places, rows, count, found, site, i, j, out, at, near);
-    }
-    if site == 11 {
-        return put_set_at(doc, places, rows, count, i, j, near, out, at);
-    }
-    if site == 14 {
-        return put_priority_at(doc, places, rows, count, i, j, out, at);
-    }
-    if site == 15 {
-        return put_pair_at(doc, places, rows, count, site, i, j, out, at);
-    }
     let names = &table[0..829];
-    if site == 5 {
-        return put_init_at(doc, places, names, enums, i, near, out, at);
-    }
-    if site == 17 {
-        return put_error_emit_at(doc, places, names, enums, i, near, out, at);
-    }
     let b = known.claims;
     let listed = &claims[0..b];
-    if site == 18 {
-        return put_claim_at(doc, places, listed, i, out, at);
+    match site {
+        5 => put_init_at(doc, places, names, enums, i, near, out, at),
+        11 => put_set_at(doc, places, rows, count, i, j, near, out, at),
+        14 => put_priority_at(doc, places, rows, count, i, j, out, at),
+        15 => put_pair_at(doc, places, rows, count, site, i, j, out, at),
+        17 => put_error_emit_at(doc, places, names, enums, i, near, out, at),
+        18 => put_claim_at(doc, places, listed, i, out, at),
+        19 => put_formula_at(doc, places, listed, names, enums, i, out, at),
+        _ => {
+            let found = known.found;
+            put_warning(doc, places, rows, count, found, site, i, j, out, at, near)
+        }
     }
-    put_formula_at(doc, places, listed, names, enums, i, out, at)
 }
 
 // Puts the message from a place on. Bytes that don't fit are left out.
+#[tactic(auto, using(crate::proofs::FindingLaws::judged_site, crate::proofs::FindingLaws::finding_judged, crate::proofs::FindingLaws::said_length, crate::proofs::FindingLaws::straight_site, crate::proofs::FindingLaws::finding_put, crate::proofs::JudgedLaws::bound_none, crate::proofs::FindingLaws::put_length))]
 pub fn put_finding<'a>(
     doc: &'a [u8],
     places: &'a [usize],
@@ -147,8 +129,8 @@ pub fn put_finding<'a>(
     j: usize,
     out: &mut [u8],
     at: usize,
-    near: Near,
-    bound: Bound,
+    near: Option<Near>,
+    bound: Option<Bound>,
 ) -> Done
     requires kept { Kept max_list doc.now near }
     requires bound_to { BoundTo doc.now places.now rows.now table.old bound }
@@ -178,21 +160,13 @@ pub fn put_finding<'a>(
         doc, places, rows, count, known, table, enums, claims, site, i, j, near,
     );
     let end = put_said(out, at, doc, site, x);
-    Done {
-        end,
-        bound: Bound::Nothing,
-    }
+    Done { end, bound: None }
 }
 
 // The place of the list in which the entry stands that a finding of a transition is about, by its row.
-fn list_of_row(rows: &[usize], site: u32, i: usize) -> Found {
-    if 255 < i {
-        return Found::Nothing;
-    }
-    if site == 13 {
-        return Found::At(field(rows, i as u8, 5));
-    }
-    Found::At(field(rows, i as u8, 6))
+fn list_of_row(rows: &[usize], site: u32, i: usize) -> Option<usize> {
+    let row = u8::try_from(i).ok()?;
+    Some(field(rows, row, if site == 13 { 5 } else { 6 }))
 }
 
 // The same for a finding at any site; none where there is no such list.
@@ -203,23 +177,21 @@ fn list_of<'a>(
     known: Ready,
     site: u32,
     i: usize,
-) -> Found {
+) -> Option<usize> {
     match site {
-        5 => Found::At(word(places, 7)),
+        5 | 23 => Some(word(places, 7)),
         11..=13 => list_of_row(rows, site, i),
-        17 => Found::At(after(doc, after_head(doc, word(places, 2)))),
+        17 => Some(after(doc, after_head(doc, word(places, 2)))),
         21 => known.found,
         22 => variants_of(places, i),
-        23 => Found::At(word(places, 7)),
-        _ => Found::Nothing,
+        _ => None,
     }
 }
 
 // The number of the entry there.
 fn number_in_list(site: u32, i: usize, j: usize) -> usize {
     match site {
-        11..=13 => j,
-        22 => j,
+        11..=13 | 22 => j,
         _ => i,
     }
 }
@@ -233,14 +205,13 @@ pub fn look_up_finding<'a>(
     site: u32,
     i: usize,
     j: usize,
-    near: Near,
-) -> Near
+    near: Option<Near>,
+) -> Option<Near>
     requires { Kept max_list doc.now near }
     ensures { Kept max_list doc.now result }
 {
-    let f = list_of(doc, places, rows, known, site, i);
-    match f {
-        Found::At(list) => look_up(doc, list, number_in_list(site, i, j), near),
-        Found::Nothing => near,
-    }
+    let Some(list) = list_of(doc, places, rows, known, site, i) else {
+        return near;
+    };
+    look_up(doc, list, number_in_list(site, i, j), near)
 }

@@ -11,6 +11,7 @@ use crate::said::Arg;
 use crate::shown::{put_text, put_type, put_what};
 
 // Puts one argument.
+#[tactic(auto, unfolding(crate::specs::Said::shown))]
 pub(crate) fn put_arg(out: &mut [u8], at: usize, doc: &[u8], a: Arg) -> usize
     requires { (at ≤ 0x500_0000) × (length doc.now ≤ 0xffff) }
     ensures put { Put out.old at (shown doc.now a) result out.new }
@@ -27,35 +28,24 @@ pub(crate) fn put_arg(out: &mut [u8], at: usize, doc: &[u8], a: Arg) -> usize
 }
 
 // The first place from i on at which a form has a brace, or its end.
+#[tactic(auto, using(crate::proofs::FormLaws::plain_more))]
 fn plain_end(form: &[u8], i: usize) -> usize
     requires { i ≤ length form.now }
     ensures { PlainTo form.now i result }
 {
-    let mut j = i;
-    while j < form.len() {
-        let c = form[j];
-        if c == 123 {
+    for j in i..form.len() {
+        if form[j] == b'{' || form[j] == b'}' {
             return j;
         }
-        if c == 125 {
-            return j;
-        }
-        j += 1;
     }
-    j
+    form.len()
 }
 
 // Whether argument number n stands at place j of a form.
 fn opens(form: &[u8], j: usize, n: usize) -> bool
     ensures { Opens form.now j n result }
 {
-    if 5 <= n {
-        return false;
-    }
-    if j < form.len() {
-        return form[j] == 123;
-    }
-    false
+    n < 5 && j < form.len() && form[j] == b'{'
 }
 
 // The place after the brace at place j of a form; the end where there is none.
@@ -63,10 +53,7 @@ fn past_brace(form: &[u8], j: usize) -> usize
     requires { j ≤ length form.now }
     ensures { result ≡ beyond form.now j }
 {
-    if j < form.len() {
-        return j + 1;
-    }
-    j
+    form.len().min(j + 1)
 }
 
 // Puts a form with its arguments in their places.
@@ -78,6 +65,7 @@ pub(crate) fn put_form(out: &mut [u8], at: usize, doc: &[u8], form: &[u8], args:
     let mut k = at;
     let mut n: usize = 0;
     let mut i: usize = 0;
+    // No `for`: a turn passes a piece of the form, up to a brace.
     while i < form.len() {
         let j = plain_end(form, i);
         k = put_bytes(out, k, &form[i..j]);

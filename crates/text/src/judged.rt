@@ -1,37 +1,36 @@
-// The messages of what was judged in a transition, piece by piece: sites 8, 9, 12 and 13. For arguments of any kind site.rt has their forms whole.
+// The messages of what was judged in a transition, piece by piece: sites 8, 9, 12 and 13. For arguments of any kind site.rt has their forms
+// whole, which takes longer.
 ghost use Rattle.std.specs.Prelude.{ℕ, ◌+◌, ◌≤◌, ◌≡◌, List, length, take};
 ghost use Rattle.reading.specs.Limits.{max_list};
 ghost use Rattle.text.specs.Put.{Put};
 ghost use Rattle.text.specs.Near.{Kept};
 ghost use Rattle.text.specs.Message.{saying, saying_text};
-ghost use Rattle.text.specs.Said.{saying_of};
+ghost use Rattle.text.specs.Said.{line, saying_of};
 ghost use Rattle.text.specs.Says.{WithOwn, Says, SaysGuard, SaysValue, SaysEmit, SaysInside, SaysJudged, PutsSaid};
 ghost use Rattle.text.specs.Pieces.{RowForm};
 ghost use Rattle.text.specs.Bound.{SeesNames, BoundTo};
 ghost use Rattle.text.specs.declared.said.Arg.TheVariants.{Blank, Name, Number};
-ghost use Rattle.text.specs.declared.said.Said.TheVariants.{Line};
 
 use crate::blame::untyped;
 use crate::cause::put_blame;
 use crate::entry::{Near, entry_at};
-use crate::listed::put_transition;
+use crate::listed::{put_assigned, put_transition};
 use crate::out::put_bytes;
-use crate::shown::put_name;
 use findings::{field, judge_pattern, outputs_of};
-use typing::{Blame, Found, after, after_head, null_at, type_expr, validate_output_expr, word};
+use typing::{Blame, after, after_head, null_at, type_expr, validate_output_expr, word};
 
 // The transition whose pattern was judged last, and how many words of the table have the names that it sees.
-#[derive(Clone, Copy)]
-pub enum Bound {
-    Row(u8, usize),
-    Nothing,
+#[derive(Clone, Copy, Debug, PartialEq, Eq)]
+pub struct Bound {
+    pub row: u8,
+    pub names: usize,
 }
 
 // Where a message ends, and the transition judged last.
-#[derive(Clone, Copy)]
+#[derive(Clone, Copy, Debug, PartialEq, Eq)]
 pub struct Done {
     pub end: usize,
-    pub bound: Bound,
+    pub bound: Option<Bound>,
 }
 
 // Puts the message of a site of a transition: what was judged, and what is wrong with it.
@@ -43,34 +42,15 @@ fn put_row<'a>(
     what: &'a [u8],
     name: usize,
     i: u64,
-    w: Blame,
+    w: Result<(), Blame>,
 ) -> usize
     requires at_bound { (at ≤ 0x10_0000) × (length doc.now ≤ 0xffff) × (length what.now ≤ 0xff) }
     requires row_form { RowForm site what.now }
-    ensures put { Put out.old at (saying_text site (saying_of doc.now (Line (Name name) (Number i) Blank Blank Blank w))) result out.new }
+    ensures put { Put out.old at (saying_text site (saying_of doc.now (line (Name name) (Number i) Blank Blank Blank w))) result out.new }
     ensures upper_bound { result ≤ at + 0x60_0000 }
 {
     let a = put_transition(out, at, doc, name, i);
     let b = put_bytes(out, a, what);
-    put_blame(out, b, doc, w)
-}
-
-// Puts the message of site 12: of a transition and a variable, and what is wrong with the value that it is set to.
-fn put_assigned(
-    out: &mut [u8],
-    at: usize,
-    doc: &[u8],
-    name: usize,
-    i: u64,
-    var: usize,
-    w: Blame,
-) -> usize
-    requires { (at ≤ 0x10_0000) × (length doc.now ≤ 0xffff) }
-    ensures put { Put out.old at (saying_text 12 (saying_of doc.now (Line (Name name) (Number i) (Name var) Blank Blank w))) result out.new }
-    ensures upper_bound { result ≤ at + 0x60_0000 }
-{
-    let a = put_transition(out, at, doc, name, i);
-    let b = put_name(out, a, doc, b": set '", var, b"': ");
     put_blame(out, b, doc, w)
 }
 
@@ -107,7 +87,7 @@ fn put_value<'a>(
     names: &'a [usize],
     enums: &'a [usize],
     j: usize,
-    near: Near,
+    near: Option<Near>,
     out: &mut [u8],
     at: usize,
 ) -> usize
@@ -116,14 +96,16 @@ fn put_value<'a>(
     ensures puts_said { PutsSaid (SaysValue doc.now places.now rows.now i names.now enums.now j) doc.now 12 out.old at result out.new }
     ensures upper_bound { result ≤ at + 0x60_0000 }
 {
-    let f = entry_at(doc, field(rows, i, 6), j, near);
-    let Found::At(k) = f else {
+    let Some(k) = entry_at(doc, field(rows, i, 6), j, near) else {
         return at;
     };
     let var = after_head(doc, k);
     let t = type_expr(doc, after(doc, var), 32, names, enums);
     let w = untyped(doc, t);
-    put_assigned(out, at, doc, word(places, 0), i as u64, var, w)
+    let owner = word(places, 0);
+    put_assigned(
+        out, at, doc, 12, owner, i as u64, b": set '", var, b"': ", w,
+    )
 }
 
 // Site 13: puts what is said of its output j.
@@ -135,7 +117,7 @@ fn put_emit<'a>(
     names: &'a [usize],
     enums: &'a [usize],
     j: usize,
-    near: Near,
+    near: Option<Near>,
     out: &mut [u8],
     at: usize,
 ) -> usize
@@ -144,8 +126,7 @@ fn put_emit<'a>(
     ensures puts_said { PutsSaid (SaysEmit doc.now places.now rows.now i names.now enums.now j) doc.now 13 out.old at result out.new }
     ensures upper_bound { result ≤ at + 0x60_0000 }
 {
-    let f = entry_at(doc, field(rows, i, 5), j, near);
-    let Found::At(k) = f else {
+    let Some(k) = entry_at(doc, field(rows, i, 5), j, near) else {
         return at;
     };
     let w = validate_output_expr(doc, k, outputs_of(places), names, enums);
@@ -153,6 +134,7 @@ fn put_emit<'a>(
 }
 
 // Sites 9, 12 and 13.
+#[tactic(auto, using(crate::proofs::BlamedLaws::puts_guard, crate::proofs::BlamedLaws::puts_value, crate::proofs::BlamedLaws::puts_emit))]
 fn put_inside<'a>(
     doc: &'a [u8],
     places: &'a [usize],
@@ -162,7 +144,7 @@ fn put_inside<'a>(
     enums: &'a [usize],
     site: u32,
     j: usize,
-    near: Near,
+    near: Option<Near>,
     out: &mut [u8],
     at: usize,
 ) -> usize
@@ -172,13 +154,11 @@ fn put_inside<'a>(
     ensures puts_said { PutsSaid (SaysInside doc.now places.now rows.now i names.now enums.now site j) doc.now site out.old at result out.new }
     ensures upper_bound { result ≤ at + 0x60_0000 }
 {
-    if site == 9 {
-        return put_guard(doc, places, rows, i, names, enums, out, at);
+    match site {
+        9 => put_guard(doc, places, rows, i, names, enums, out, at),
+        12 => put_value(doc, places, rows, i, names, enums, j, near, out, at),
+        _ => put_emit(doc, places, rows, i, names, enums, j, near, out, at),
     }
-    if site == 12 {
-        return put_value(doc, places, rows, i, names, enums, j, near, out, at);
-    }
-    put_emit(doc, places, rows, i, names, enums, j, near, out, at)
 }
 
 // How many words of the table have the names that transition i sees: its pattern is judged, unless it was the last that was. The first block of the
@@ -189,7 +169,7 @@ fn names_of<'a>(
     rows: &'a [usize],
     i: u8,
     table: &mut [usize],
-    bound: Bound,
+    bound: Option<Bound>,
 ) -> usize
     requires in_bounds { 1658 ≤ length table.old }
     requires bound_to { BoundTo doc.now places.now rows.now table.old bound }
@@ -198,15 +178,9 @@ fn names_of<'a>(
     ensures table_unchanged { take 829 table.new ≡ take 829 table.old }
 {
     match bound {
-        Bound::Row(k, names) => {
-            if k == i {
-                return names;
-            }
-        }
-        Bound::Nothing => {}
+        Some(last) if last.row == i => last.names,
+        _ => judge_pattern(doc, places, rows, i, table).names,
     }
-    let p = judge_pattern(doc, places, rows, i, table);
-    p.names
 }
 
 // Site 8: puts what is said of the pattern of transition i.
@@ -241,7 +215,10 @@ fn put_pattern<'a>(
     );
     Done {
         end,
-        bound: Bound::Row(i, p.names),
+        bound: Some(Bound {
+            row: i,
+            names: p.names,
+        }),
     }
 }
 
@@ -255,8 +232,8 @@ fn put_judged<'a>(
     enums: &'a [usize],
     site: u32,
     j: usize,
-    near: Near,
-    bound: Bound,
+    near: Option<Near>,
+    bound: Option<Bound>,
     out: &mut [u8],
     at: usize,
 ) -> Done
@@ -279,7 +256,7 @@ fn put_judged<'a>(
     let end = put_inside(doc, places, rows, i, names, enums, site, j, near, out, at);
     Done {
         end,
-        bound: Bound::Row(i, n),
+        bound: Some(Bound { row: i, names: n }),
     }
 }
 
@@ -294,8 +271,8 @@ pub(crate) fn put_judged_at<'a>(
     site: u32,
     i: usize,
     j: usize,
-    near: Near,
-    bound: Bound,
+    near: Option<Near>,
+    bound: Option<Bound>,
     out: &mut [u8],
     at: usize,
 ) -> Done

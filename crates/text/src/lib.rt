@@ -33,26 +33,27 @@ ghost use Rattle.text.specs.Told.{told_of, text_of};
 
 pub use entry::Near;
 pub use finding::{look_up_finding, put_finding, put_warning};
-use findings::{Line, finding_at};
+use findings::finding_at;
 pub use judged::{Bound, Done};
 pub use out::put_bytes;
-pub use told::Told;
+pub use told::Untold;
+use told::why_untold;
 pub use words::{module_after, module_at};
 use words::{say_words, write};
 
-// Message number k of a document, into the front of the lent bytes; the bytes past it keep their contents. Nothing is written where
-// the document is refused, there is no such message, or the bytes are too few.
-pub fn message(doc: &[u8], k: usize, out: &mut [u8]) -> Told
+// Message number k of a document, into the front of the lent bytes; how many bytes it has. The bytes past it keep their contents. Nothing
+// is written where the document is refused, there is no such message, or the bytes are too few.
+pub fn message(doc: &[u8], k: usize, out: &mut [u8]) -> Result<usize, Untold>
     ensures value { result ≡ told_of k out.old (read_document doc.now) }
     ensures out_after { out.new ≡ text_of k out.old (read_document doc.now) }
 {
     let line = finding_at(doc, k);
     match line {
-        Line::Words(owner, site, first, second, _) => {
+        Ok(words) => {
+            let [owner, site, first, second, _] = words;
             let x = say_words(doc, owner as usize, site, first as usize, second as usize);
             write(doc, site, x, out)
         }
-        Line::Refused(fault, place) => Told::Refused(fault, place),
-        Line::Missing(_) => Told::Missing(k),
+        Err(absent) => Err(why_untold(absent, k)),
     }
 }

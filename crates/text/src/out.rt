@@ -1,4 +1,6 @@
 // Bytes put into lent ones, from a place on; those that don't fit are left out.
+//
+// The place stands beside the bytes, and is no part of a slice of them: it may lie past their end. What is lent is a slice: the library has no heap.
 ghost use Rattle.std.specs.Prelude.{◌+◌, ◌≤◌, ◌≡◌, [], ◌∷◌, length, set};
 ghost use Rattle.std.proofs.lemmas.List.Edits.{sets};
 ghost use Rattle.text.specs.Put.{Put};
@@ -22,27 +24,14 @@ pub(crate) fn put_byte(out: &mut [u8], at: usize, b: u8) -> usize
     at + 1
 }
 
-// Puts part into out from at on, where it fits.
-fn put_whole(out: &mut [u8], at: usize, part: &[u8])
-    requires { at + length part.now ≤ length out.old }
-    ensures { out.new ≡ sets out.old at part.now }
-{
-    let mut i = 0;
-    while i < part.len() {
-        out[at + i] = part[i];
-        i += 1;
-    }
-}
-
-// Puts part into out from at on, as far as out reaches.
+// Puts as much of part into out from at on as out has room for.
 fn put_some(out: &mut [u8], at: usize, part: &[u8])
-    requires { at ≤ 0xffff_ffff }
+    requires { length out.old ≤ at + length part.now }
     ensures { out.new ≡ sets out.old at part.now }
 {
-    let mut i = 0;
-    while i < part.len() {
-        store(out, at + i, part[i]);
-        i += 1;
+    if at < out.len() {
+        let room = out.len() - at;
+        out[at..].copy_from_slice(&part[..room]);
     }
 }
 
@@ -52,10 +41,10 @@ pub fn put_bytes(out: &mut [u8], at: usize, part: &[u8]) -> usize
     ensures { Put out.old at part.now result out.new }
 {
     let end = at + part.len();
-    if end <= out.len() {
-        put_whole(out, at, part);
-    } else {
+    if out.len() < end {
         put_some(out, at, part);
+        return end;
     }
+    out[at..end].copy_from_slice(part);
     end
 }

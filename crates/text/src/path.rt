@@ -16,7 +16,7 @@ use crate::shown::put_text;
 use reading::{Answer, Cursor, Text};
 
 // The name at a place.
-fn name_at(doc: &[u8], place: usize) -> Answer
+fn name_at(doc: &[u8], place: usize) -> Answer<u64>
     ensures { result ≡ answer (map_r length (read_name doc.now place)) }
 {
     let c = Cursor { at: place };
@@ -24,24 +24,13 @@ fn name_at(doc: &[u8], place: usize) -> Answer
 }
 
 // The place after the name at a place.
+#[tactic(auto, using(crate::proofs::PathLaws::after_got, crate::proofs::PathLaws::after_refused))]
 fn after_name(doc: &[u8], place: usize) -> usize
     ensures { result ≡ place_after (read_name doc.now place) }
 {
-    let r = name_at(doc, place);
-    match r {
-        Answer::Got(_, next) => next.at,
-        Answer::Refused(_, refused) => refused,
-    }
-}
-
-// Whether a name stands at a place.
-fn name_reads(doc: &[u8], place: usize) -> bool
-    ensures { result ≡ reads (read_name doc.now place) }
-{
-    let r = name_at(doc, place);
-    match r {
-        Answer::Got(_, _) => true,
-        Answer::Refused(_, _) => false,
+    match name_at(doc, place) {
+        Ok((_, next)) => next.at,
+        Err(refusal) => refusal.place,
     }
 }
 
@@ -50,14 +39,11 @@ fn names_read(doc: &[u8], place: usize, count: u64) -> bool
     ensures { result ≡ reads (entries count read_name doc.now place) }
 {
     let mut k = place;
-    let mut left = count;
-    while 0 < left {
-        if name_reads(doc, k) {
-            k = after_name(doc, k);
-            left -= 1;
-        } else {
+    for _i in 0..count {
+        let Ok((_, next)) = name_at(doc, k) else {
             return false;
-        }
+        };
+        k = next.at;
     }
     true
 }
@@ -81,12 +67,10 @@ fn put_more(out: &mut [u8], at: usize, doc: &[u8], place: usize, count: u64) -> 
 {
     let mut k = at;
     let mut p = place;
-    let mut left = count;
-    while 0 < left {
+    for _i in 0..count {
         let l = put_bytes(out, k, b", ");
         k = put_quoted(out, l, doc, p);
         p = after_name(doc, p);
-        left -= 1;
     }
     k
 }
@@ -113,8 +97,7 @@ pub(crate) fn put_names(out: &mut [u8], at: usize, doc: &[u8], place: usize) -> 
     ensures upper_bound { result ≤ at + 0x8_0100 }
 {
     let c = Cursor { at: place };
-    let r = c.count(doc, 8);
-    let Answer::Got(count, first) = r else {
+    let Ok((count, first)) = c.count(doc, 8) else {
         return put_bytes(out, at, b"[]");
     };
     let k = first.at;

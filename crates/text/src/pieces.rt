@@ -1,17 +1,15 @@
 // The messages of two transitions, piece by piece: sites 14, 15 and 24, of which a module can have one for each two transitions.
-// For arguments of any kind site.rt has their forms whole.
-ghost use Rattle.std.specs.Prelude.{◌+◌, ◌≤◌, ◌≡◌, [], ◌∷◌, length};
+// For arguments of any kind site.rt has their forms whole, which takes longer: a form is looked through for braces.
+ghost use Rattle.std.specs.Prelude.{◌+◌, ◌≤◌, ◌≡◌, length, Ok};
 ghost use Rattle.reading.specs.Skip.{text_at};
-ghost use Rattle.typing.specs.declared.cause.Blame.TheVariants as blame;
-ghost use Rattle.text.specs.Form.{format};
+ghost use Rattle.text.specs.Form.{text};
 ghost use Rattle.text.specs.Shown.{decimal};
 ghost use Rattle.text.specs.Put.{Put};
-ghost use Rattle.text.specs.Message.{site_form, saying_text, pair_said, priority_said};
-ghost use Rattle.text.specs.Said.{saying_of};
+ghost use Rattle.text.specs.Message.{saying_text, pair_said, priority_said};
+ghost use Rattle.text.specs.Said.{line, saying_of};
 ghost use Rattle.text.specs.Says.{WithRows, Says, SaysPair, SaysPriority, PutsSaid};
-ghost use Rattle.text.specs.Pieces.{in_state, in_priority, both_ids};
+ghost use Rattle.text.specs.Pieces.{PutTwo, in_state, in_priority};
 ghost use Rattle.text.specs.declared.said.Arg.TheVariants.{Blank, Name, Number};
-ghost use Rattle.text.specs.declared.said.Said.TheVariants.{Line};
 
 use crate::decimal::put_decimal;
 use crate::out::put_bytes;
@@ -32,15 +30,24 @@ fn put_state(out: &mut [u8], at: usize, doc: &[u8], name: usize, state: usize) -
     put_text(out, c, doc, state)
 }
 
-// Puts the ids of both.
-fn put_ids(out: &mut [u8], at: usize, i: u64, j: u64) -> usize
-    requires { at ≤ 0x80_0000 }
-    ensures put { Put out.old at (both_ids (decimal i) (decimal j)) result out.new }
-    ensures upper_bound { result ≤ at + 0x100 }
+// Puts the ids of both, with bytes before and behind them.
+fn put_ids<'a>(
+    out: &mut [u8],
+    at: usize,
+    before: &'a [u8],
+    i: u64,
+    j: u64,
+    behind: &'a [u8],
+) -> usize
+    requires { (at ≤ 0x80_0000) × (length before.now ≤ 0xff) × (length behind.now ≤ 0xff) }
+    ensures put { PutTwo out.old at before.now (decimal i) (text " and #") (decimal j) behind.now result out.new }
+    ensures upper_bound { result ≤ at + 0x300 }
 {
-    let a = put_decimal(out, at, i);
-    let b = put_bytes(out, a, b" and #");
-    put_decimal(out, b, j)
+    let a = put_bytes(out, at, before);
+    let b = put_decimal(out, a, i);
+    let c = put_bytes(out, b, b" and #");
+    let d = put_decimal(out, c, j);
+    put_bytes(out, d, behind)
 }
 
 // Puts in which module and state they are, and which priority they have.
@@ -73,60 +80,17 @@ fn put_equal(
     j: u64,
 ) -> usize
     requires { (at ≤ 0x10_0000) × (length doc.now ≤ 0xffff) }
-    ensures put { Put out.old at (saying_text 14 (saying_of doc.now (Line (Name name) (Name state) (Number priority) (Number i) (Number j) blame.Nothing))) result out.new }
+    ensures put { Put out.old at (saying_text 14 (saying_of doc.now (line (Name name) (Name state) (Number priority) (Number i) (Number j) (Ok tt)))) result out.new }
     ensures upper_bound { result ≤ at + 0x3_0000 }
 {
     let a = put_rank(out, at, doc, name, state, priority);
-    let b = put_bytes(out, a, b" for the same event pattern (transitions #");
-    let c = put_ids(out, b, i, j);
-    put_bytes(out, c, b")")
-}
-
-// Puts site 15's form with its arguments.
-fn put_duplicate(
-    out: &mut [u8],
-    at: usize,
-    doc: &[u8],
-    name: usize,
-    state: usize,
-    i: u64,
-    j: u64,
-) -> usize
-    requires { (at ≤ 0x10_0000) × (length doc.now ≤ 0xffff) }
-    ensures put { Put out.old at (format (site_form 15) (text_at doc.now name ∷ text_at doc.now state ∷ decimal i ∷ decimal j ∷ [] ∷ [])) result out.new }
-    ensures upper_bound { result ≤ at + 0x3_0000 }
-{
-    let a = put_state(out, at, doc, name, state);
-    let b = put_bytes(out, a, b"': duplicate transitions #");
-    let c = put_ids(out, b, i, j);
-    put_bytes(
+    put_ids(
         out,
-        c,
-        b" - identical event pattern and guard; the second is unreachable",
-    )
-}
-
-// Puts site 24's form with its arguments.
-fn put_ambiguous(
-    out: &mut [u8],
-    at: usize,
-    doc: &[u8],
-    name: usize,
-    state: usize,
-    i: u64,
-    j: u64,
-) -> usize
-    requires { (at ≤ 0x10_0000) × (length doc.now ≤ 0xffff) }
-    ensures put { Put out.old at (format (site_form 24) (text_at doc.now name ∷ text_at doc.now state ∷ decimal i ∷ decimal j ∷ [] ∷ [])) result out.new }
-    ensures upper_bound { result ≤ at + 0x3_0000 }
-{
-    let a = put_state(out, at, doc, name, state);
-    let b = put_bytes(out, a, b"': transitions #");
-    let c = put_ids(out, b, i, j);
-    put_bytes(
-        out,
-        c,
-        b" share an event pattern with different guards and no priorities; first match wins in source order (add distinct `priority N;` to pin the intent)",
+        a,
+        b" for the same event pattern (transitions #",
+        i,
+        j,
+        b")",
     )
 }
 
@@ -143,16 +107,32 @@ fn put_both(
 ) -> usize
     requires at_bound { (at ≤ 0x10_0000) × (length doc.now ≤ 0xffff) }
     requires site_value { (site ≡ 15 → ⊥) → site ≡ 24 }
-    ensures put { Put out.old at (saying_text site (saying_of doc.now (Line (Name name) (Name state) (Number i) (Number j) Blank blame.Nothing))) result out.new }
+    ensures put { Put out.old at (saying_text site (saying_of doc.now (line (Name name) (Name state) (Number i) (Number j) Blank (Ok tt)))) result out.new }
     ensures upper_bound { result ≤ at + 0x3_0000 }
 {
+    let a = put_state(out, at, doc, name, state);
     if site == 15 {
-        return put_duplicate(out, at, doc, name, state, i, j);
+        return put_ids(
+            out,
+            a,
+            b"': duplicate transitions #",
+            i,
+            j,
+            b" - identical event pattern and guard; the second is unreachable",
+        );
     }
-    put_ambiguous(out, at, doc, name, state, i, j)
+    put_ids(
+        out,
+        a,
+        b"': transitions #",
+        i,
+        j,
+        b" share an event pattern with different guards and no priorities; first match wins in source order (add distinct `priority N;` to pin the intent)",
+    )
 }
 
 // Puts what is said of transitions i and j.
+#[tactic(auto, using(crate::proofs::PieceLaws::pair_put))]
 fn put_pair<'a>(
     doc: &'a [u8],
     places: &'a [usize],
@@ -192,16 +172,14 @@ pub(crate) fn put_pair_at<'a>(
     ensures puts_said { PutsSaid (Says (WithRows doc.now places.now rows.now count) doc.now (pair_said i j)) doc.now site out.old at result out.new }
     ensures upper_bound { result ≤ at + 0x3_0000 }
 {
-    if count as usize <= i {
-        return at;
-    }
-    if count as usize <= j {
+    if count as usize <= i || count as usize <= j {
         return at;
     }
     put_pair(doc, places, rows, site, i as u8, j as u8, out, at)
 }
 
 // Puts what is said of the priority that transitions i and j have.
+#[tactic(auto, using(crate::proofs::PieceLaws::rank_none, crate::proofs::PieceLaws::rank_said))]
 fn put_priority<'a>(
     doc: &'a [u8],
     places: &'a [usize],
@@ -242,10 +220,7 @@ pub(crate) fn put_priority_at<'a>(
     ensures puts_said { PutsSaid (Says (WithRows doc.now places.now rows.now count) doc.now (priority_said i j)) doc.now 14 out.old at result out.new }
     ensures upper_bound { result ≤ at + 0x3_0000 }
 {
-    if count as usize <= i {
-        return at;
-    }
-    if count as usize <= j {
+    if count as usize <= i || count as usize <= j {
         return at;
     }
     put_priority(doc, places, rows, i as u8, j as u8, out, at)

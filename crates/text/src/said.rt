@@ -1,7 +1,7 @@
 // What a message says, as plain data: the arguments of its form, and what is wrong.
 ghost use Rattle.std.specs.Prelude.{◌≡◌};
+ghost use Rattle.text.specs.Said.{line};
 ghost use Rattle.text.specs.declared.said.Arg.TheVariants.{Blank};
-ghost use Rattle.text.specs.declared.said.Said.TheVariants.{Line};
 
 use typing::{Blame, Ty, What};
 
@@ -16,23 +16,29 @@ pub enum Arg {
     Word(What),
 }
 
-// Five arguments and what is wrong; or nothing to say.
+// Five arguments, of which those not used are blank, and what is wrong.
 #[derive(Clone, Copy)]
-pub enum Said {
-    Nothing,
-    Line(Arg, Arg, Arg, Arg, Arg, Blame),
+pub struct Said {
+    pub args: [Arg; 5],
+    pub blame: Result<(), Blame>,
 }
 
 // Two arguments.
-pub(crate) fn two(a: Arg, b: Arg, w: Blame) -> Said
-    ensures { result ≡ Line a b Blank Blank Blank w }
+pub(crate) fn two(a: Arg, b: Arg, w: Result<(), Blame>) -> Option<Said>
+    ensures { result ≡ line a b Blank Blank Blank w }
 {
-    Said::Line(a, b, Arg::Blank, Arg::Blank, Arg::Blank, w)
+    Some(Said {
+        args: [a, b, Arg::Blank, Arg::Blank, Arg::Blank],
+        blame: w,
+    })
 }
 
 // Three.
-pub(crate) fn three(a: Arg, b: Arg, c: Arg, w: Blame) -> Said
-    ensures { result ≡ Line a b c Blank Blank w }
+pub(crate) fn three(a: Arg, b: Arg, c: Arg, w: Result<(), Blame>) -> Option<Said>
+    ensures { result ≡ line a b c Blank Blank w }
 {
-    Said::Line(a, b, c, Arg::Blank, Arg::Blank, w)
+    Some(Said {
+        args: [a, b, c, Arg::Blank, Arg::Blank],
+        blame: w,
+    })
 }

@@ -63,6 +63,7 @@ fn put_bits(out: &mut [u8], at: usize, width: u32) -> usize
 }
 
 // Puts a type.
+#[tactic(auto, unfolding(crate::specs::Shown::debug_type, typing::specs::Means::ty_of))]
 pub(crate) fn put_type(out: &mut [u8], at: usize, doc: &[u8], t: Ty) -> usize
     requires { (at ≤ 0x800_0000) × (length doc.now ≤ 0xffff) }
     ensures put { Put out.old at (debug_type (ty_of doc.now t)) result out.new }

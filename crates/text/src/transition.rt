@@ -8,12 +8,15 @@ use crate::blame::untyped;
 use crate::entry::{Near, entry_at};
 use crate::said::{Arg, Said, three, two};
 use findings::{field, judge_pattern, outputs_of};
-use typing::{
-    Blame, Found, Typed, after, after_head, null_at, type_expr, validate_output_expr, word,
-};
+use typing::{Blame, after, after_head, null_at, type_expr, validate_output_expr, word};
 
 // Site 6: of the state that transition i starts at.
-pub(crate) fn say_state<'a>(doc: &'a [u8], places: &'a [usize], rows: &'a [usize], i: u8) -> Said
+pub(crate) fn say_state<'a>(
+    doc: &'a [u8],
+    places: &'a [usize],
+    rows: &'a [usize],
+    i: u8,
+) -> Option<Said>
     ensures { SaysState doc.now places.now rows.now i result }
 {
     let state = field(rows, i, 1);
@@ -21,12 +24,17 @@ pub(crate) fn say_state<'a>(doc: &'a [u8], places: &'a [usize], rows: &'a [usize
         Arg::Name(word(places, 0)),
         Arg::Number(i as u64),
         Arg::Name(state),
-        Blame::Nothing,
+        Ok(()),
     )
 }
 
 // Site 7: of the state that it leads to.
-pub(crate) fn say_next<'a>(doc: &'a [u8], places: &'a [usize], rows: &'a [usize], i: u8) -> Said
+pub(crate) fn say_next<'a>(
+    doc: &'a [u8],
+    places: &'a [usize],
+    rows: &'a [usize],
+    i: u8,
+) -> Option<Said>
     ensures { SaysNext doc.now places.now rows.now i result }
 {
     let next = field(rows, i, 4);
@@ -34,7 +42,7 @@ pub(crate) fn say_next<'a>(doc: &'a [u8], places: &'a [usize], rows: &'a [usize]
         Arg::Name(word(places, 0)),
         Arg::Number(i as u64),
         Arg::Name(next),
-        Blame::Nothing,
+        Ok(()),
     )
 }
 
@@ -46,12 +54,12 @@ pub(crate) fn say_guard<'a>(
     i: u8,
     names: &'a [usize],
     enums: &'a [usize],
-) -> Said
+) -> Option<Said>
     ensures { SaysGuard doc.now places.now rows.now i names.now enums.now result }
 {
     let at = field(rows, i, 3);
     if null_at(doc, at) {
-        return Said::Nothing;
+        return None;
     }
     let t = type_expr(doc, at, 32, names, enums);
     let w = untyped(doc, t);
@@ -66,22 +74,21 @@ pub(crate) fn say_guard_type<'a>(
     i: u8,
     names: &'a [usize],
     enums: &'a [usize],
-) -> Said
+) -> Option<Said>
     ensures { SaysGuardType doc.now places.now rows.now i names.now enums.now result }
 {
     let at = field(rows, i, 3);
     if null_at(doc, at) {
-        return Said::Nothing;
+        return None;
     }
-    let t = type_expr(doc, at, 32, names, enums);
-    let Typed::Is(ty, _) = t else {
-        return Said::Nothing;
+    let Ok((ty, _)) = type_expr(doc, at, 32, names, enums) else {
+        return None;
     };
     three(
         Arg::Name(word(places, 0)),
         Arg::Number(i as u64),
         Arg::Debug(ty),
-        Blame::Nothing,
+        Ok(()),
     )
 }
 
@@ -92,21 +99,18 @@ pub(crate) fn say_set<'a>(
     rows: &'a [usize],
     i: u8,
     j: usize,
-    near: Near,
-) -> Said
+    near: Option<Near>,
+) -> Option<Said>
     requires { Kept max_list doc.now near }
     ensures { SaysSet doc.now places.now rows.now i j result }
 {
-    let f = entry_at(doc, field(rows, i, 6), j, near);
-    let Found::At(k) = f else {
-        return Said::Nothing;
-    };
+    let k = entry_at(doc, field(rows, i, 6), j, near)?;
     let var = after_head(doc, k);
     three(
         Arg::Name(word(places, 0)),
         Arg::Number(i as u64),
         Arg::Name(var),
-        Blame::Nothing,
+        Ok(()),
     )
 }
 
@@ -119,15 +123,12 @@ pub(crate) fn say_value<'a>(
     names: &'a [usize],
     enums: &'a [usize],
     j: usize,
-    near: Near,
-) -> Said
+    near: Option<Near>,
+) -> Option<Said>
     requires { Kept max_list doc.now near }
     ensures { SaysValue doc.now places.now rows.now i names.now enums.now j result }
 {
-    let f = entry_at(doc, field(rows, i, 6), j, near);
-    let Found::At(k) = f else {
-        return Said::Nothing;
-    };
+    let k = entry_at(doc, field(rows, i, 6), j, near)?;
     let var = after_head(doc, k);
     let t = type_expr(doc, after(doc, var), 32, names, enums);
     let w = untyped(doc, t);
@@ -148,20 +149,18 @@ pub(crate) fn say_emit<'a>(
     names: &'a [usize],
     enums: &'a [usize],
     j: usize,
-    near: Near,
-) -> Said
+    near: Option<Near>,
+) -> Option<Said>
     requires { Kept max_list doc.now near }
     ensures { SaysEmit doc.now places.now rows.now i names.now enums.now j result }
 {
-    let f = entry_at(doc, field(rows, i, 5), j, near);
-    let Found::At(k) = f else {
-        return Said::Nothing;
-    };
+    let k = entry_at(doc, field(rows, i, 5), j, near)?;
     let w = validate_output_expr(doc, k, outputs_of(places), names, enums);
     two(Arg::Name(word(places, 0)), Arg::Number(i as u64), w)
 }
 
 // Sites 9, 10, 12 and 13, by the names that the transition sees.
+#[tactic(auto, using(crate::proofs::JudgedLaws::inside_guard, crate::proofs::JudgedLaws::inside_guard_type, crate::proofs::JudgedLaws::inside_value, crate::proofs::JudgedLaws::inside_emit))]
 pub(crate) fn say_inside<'a>(
     doc: &'a [u8],
     places: &'a [usize],
@@ -171,8 +170,8 @@ pub(crate) fn say_inside<'a>(
     enums: &'a [usize],
     site: u32,
     j: usize,
-    near: Near,
-) -> Said
+    near: Option<Near>,
+) -> Option<Said>
     requires { Kept max_list doc.now near }
     ensures { SaysInside doc.now places.now rows.now i names.now enums.now site j result }
 {
@@ -185,7 +184,13 @@ pub(crate) fn say_inside<'a>(
 }
 
 // Site 8: of its pattern, by what is wrong with it.
-pub(crate) fn say_pattern<'a>(doc: &'a [u8], places: &'a [usize], i: u8, w: Blame) -> Said
+#[tactic(auto, using(crate::proofs::TransitionLaws::pattern_said_lem))]
+pub(crate) fn say_pattern<'a>(
+    doc: &'a [u8],
+    places: &'a [usize],
+    i: u8,
+    w: Result<(), Blame>,
+) -> Option<Said>
     ensures { SaysPattern doc.now places.now i w result }
 {
     two(Arg::Name(word(places, 0)), Arg::Number(i as u64), w)
@@ -193,6 +198,7 @@ pub(crate) fn say_pattern<'a>(doc: &'a [u8], places: &'a [usize], i: u8, w: Blam
 
 // Sites 8, 9, 10, 12 and 13, of transition i. The first block of the table has the module's variables; the pattern's bindings go into the
 // second.
+#[tactic(auto, using(crate::proofs::JudgedLaws::judged_pattern, crate::proofs::JudgedLaws::judged_inside))]
 pub(crate) fn say_judged<'a>(
     doc: &'a [u8],
     places: &'a [usize],
@@ -202,8 +208,8 @@ pub(crate) fn say_judged<'a>(
     enums: &'a [usize],
     site: u32,
     j: usize,
-    near: Near,
-) -> Said
+    near: Option<Near>,
+) -> Option<Said>
     requires kept { Kept max_list doc.now near }
     requires in_bounds { 1658 ≤ length table.old }
     ensures says_judged { SaysJudged doc.now places.now rows.now i (take 829 table.old) enums.now site j result }

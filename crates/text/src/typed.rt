@@ -1,53 +1,28 @@
 // The messages of what was judged outside transitions, piece by piece: sites 5, 17 and 19, of which a module can have one for each entry of a list.
-// For arguments of any kind site.rt has their forms whole.
+// For arguments of any kind site.rt has their forms whole, which takes longer.
 ghost use Rattle.std.specs.Prelude.{◌+◌, ◌≤◌, length};
 ghost use Rattle.reading.specs.Limits.{max_list};
 ghost use Rattle.text.specs.Put.{Put};
 ghost use Rattle.text.specs.Near.{Kept};
 ghost use Rattle.text.specs.Message.{saying_text, init_said, error_emit_said, formula_said};
-ghost use Rattle.text.specs.Said.{saying_of};
+ghost use Rattle.text.specs.Said.{line, saying_of};
 ghost use Rattle.text.specs.Says.{WithNames, WithFormulas, Says, PutsSaid};
-ghost use Rattle.text.specs.Pieces.{EntryForm};
 ghost use Rattle.text.specs.declared.said.Arg.TheVariants.{Blank, Name};
-ghost use Rattle.text.specs.declared.said.Said.TheVariants.{Line};
 
 use crate::blame::{unfit, untyped};
 use crate::cause::put_blame;
 use crate::entry::{Near, entry_at};
-use crate::listed::put_module;
+use crate::listed::{put_entry, put_module};
 use crate::out::put_bytes;
-use crate::shown::put_name;
 use findings::outputs_of;
 use typing::{
-    Blame, Found, after, after_head, null_at, type_expr, type_formula, validate_output_expr, word,
+    Blame, after, after_head, null_at, type_expr, type_formula, validate_output_expr, word,
 };
 
-// Puts the message of a site of an entry: its name between bytes, and what is wrong with it.
-fn put_entry<'a>(
-    out: &mut [u8],
-    at: usize,
-    doc: &'a [u8],
-    site: u32,
-    name: usize,
-    before: &'a [u8],
-    entry: usize,
-    behind: &'a [u8],
-    w: Blame,
-) -> usize
-    requires at_bound { (at ≤ 0x10_0000) × (length doc.now ≤ 0xffff) × (length before.now ≤ 0xff) × (length behind.now ≤ 0xff) }
-    requires entry_form { EntryForm site before.now behind.now }
-    ensures put { Put out.old at (saying_text site (saying_of doc.now (Line (Name name) (Name entry) Blank Blank Blank w))) result out.new }
-    ensures upper_bound { result ≤ at + 0x60_0000 }
-{
-    let a = put_module(out, at, doc, name);
-    let b = put_name(out, a, doc, before, entry, behind);
-    put_blame(out, b, doc, w)
-}
-
 // Puts the message of site 17: what is wrong with an output that an error emits.
-fn put_on_error(out: &mut [u8], at: usize, doc: &[u8], name: usize, w: Blame) -> usize
+fn put_on_error(out: &mut [u8], at: usize, doc: &[u8], name: usize, w: Result<(), Blame>) -> usize
     requires { (at ≤ 0x10_0000) × (length doc.now ≤ 0xffff) }
-    ensures put { Put out.old at (saying_text 17 (saying_of doc.now (Line (Name name) Blank Blank Blank Blank w))) result out.new }
+    ensures put { Put out.old at (saying_text 17 (saying_of doc.now (line (Name name) Blank Blank Blank Blank w))) result out.new }
     ensures upper_bound { result ≤ at + 0x60_0000 }
 {
     let a = put_module(out, at, doc, name);
@@ -62,7 +37,7 @@ pub(crate) fn put_init_at<'a>(
     names: &'a [usize],
     enums: &'a [usize],
     i: usize,
-    near: Near,
+    near: Option<Near>,
     out: &mut [u8],
     at: usize,
 ) -> usize
@@ -71,8 +46,7 @@ pub(crate) fn put_init_at<'a>(
     ensures puts_said { PutsSaid (Says (WithNames doc.now places.now names.now enums.now) doc.now (init_said i)) doc.now 5 out.old at result out.new }
     ensures upper_bound { result ≤ at + 0x60_0000 }
 {
-    let f = entry_at(doc, word(places, 7), i, near);
-    let Found::At(k) = f else {
+    let Some(k) = entry_at(doc, word(places, 7), i, near) else {
         return at;
     };
     let name = after_head(doc, k);
@@ -100,7 +74,7 @@ pub(crate) fn put_error_emit_at<'a>(
     names: &'a [usize],
     enums: &'a [usize],
     i: usize,
-    near: Near,
+    near: Option<Near>,
     out: &mut [u8],
     at: usize,
 ) -> usize
@@ -114,8 +88,7 @@ pub(crate) fn put_error_emit_at<'a>(
         return at;
     }
     let state = after_head(doc, place);
-    let f = entry_at(doc, after(doc, state), i, near);
-    let Found::At(k) = f else {
+    let Some(k) = entry_at(doc, after(doc, state), i, near) else {
         return at;
     };
     let w = validate_output_expr(doc, k, outputs_of(places), names, enums);

@@ -7,17 +7,17 @@ ghost use Rattle.text.specs.Message.{saying, saying_text};
 ghost use Rattle.text.specs.Said.{saying_of};
 ghost use Rattle.text.specs.Says.{Named, Says, SaysIn, SaysWords};
 ghost use Rattle.text.specs.Told.{sized, filled};
-ghost use Rattle.text.specs.declared.entry.Near.TheVariants.{Entry};
 
 use crate::entry::{Near, entry_of};
 use crate::said::Said;
 use crate::say::say;
 use crate::site::put_said;
-use crate::told::Told;
+use crate::told::Untold;
 use findings::{Ready, name_module, open_module};
-use typing::{Found, after, after_head};
+use typing::{after, after_head};
 
 // What is said by the tables of a module, of which so many words are in use.
+#[tactic(auto, using(crate::proofs::WordsLaws::named_said))]
 pub(crate) fn say_named<'a>(
     doc: &'a [u8],
     places: &'a [usize],
@@ -30,8 +30,8 @@ pub(crate) fn say_named<'a>(
     site: u32,
     i: usize,
     j: usize,
-    near: Near,
-) -> Said
+    near: Option<Near>,
+) -> Option<Said>
     requires kept { Kept max_list doc.now near }
     requires in_bounds { 1658 ≤ length table.old }
     requires claims_in_bounds { known.claims ≤ length claims.now }
@@ -61,20 +61,15 @@ pub(crate) fn say_named<'a>(
 pub(crate) fn say_opened(
     doc: &[u8],
     at: usize,
-    places: &mut [usize],
-    rows: &mut [usize],
-    table: &mut [usize],
-    enums: &mut [usize],
-    claims: &mut [usize],
+    places: &mut [usize; 1544],
+    rows: &mut [usize; 2040],
+    table: &mut [usize; 1658],
+    enums: &mut [usize; 2365],
+    claims: &mut [usize; 1020],
     site: u32,
     i: usize,
     j: usize,
-) -> Said
-    requires in_bounds { 1544 ≤ length places.old }
-    requires in_bounds_2 { 2040 ≤ length rows.old }
-    requires in_bounds_3 { 1658 ≤ length table.old }
-    requires in_bounds_4 { 829 ≤ length enums.old }
-    requires claims_len { length claims.old ≡ 1020 }
+) -> Option<Said>
     ensures { SaysIn doc.now at site i j result }
 {
     let listed = open_module(doc, at, places, rows);
@@ -91,12 +86,12 @@ pub(crate) fn say_opened(
         site,
         i,
         j,
-        Near::Nothing,
+        None,
     )
 }
 
 // What is said of a finding in the module at a place.
-pub(crate) fn say_in(doc: &[u8], at: usize, site: u32, i: usize, j: usize) -> Said
+pub(crate) fn say_in(doc: &[u8], at: usize, site: u32, i: usize, j: usize) -> Option<Said>
     ensures { SaysIn doc.now at site i j result }
 {
     let mut places = [0usize; 1544];
@@ -119,6 +114,7 @@ pub(crate) fn say_in(doc: &[u8], at: usize, site: u32, i: usize, j: usize) -> Sa
 }
 
 // The place of the list of modules.
+#[tactic(auto, using(crate::proofs::WordsLaws::modules_there))]
 fn modules_at(doc: &[u8]) -> usize
     ensures { Past doc.now (after_head doc.now 0) result }
 {
@@ -127,7 +123,8 @@ fn modules_at(doc: &[u8]) -> usize
 }
 
 // The place of module number k.
-pub fn module_at(doc: &[u8], k: usize, near: Near) -> Found
+#[tactic(auto, using(crate::proofs::WordsLaws::module_picked))]
+pub fn module_at(doc: &[u8], k: usize, near: Option<Near>) -> Option<usize>
     requires { KeptModule doc.now near }
     ensures { PickedModule doc.now k result }
 {
@@ -137,24 +134,26 @@ pub fn module_at(doc: &[u8], k: usize, near: Near) -> Found
 // The module after number k, which ends at a place.
 pub fn module_after(doc: &[u8], k: usize, end: usize) -> Near
     requires { k ≤ 0xffff_ffff }
-    ensures { result ≡ Entry (after_item doc.now (after_head doc.now 0)) (k + 1) end }
+    ensures { result ≡ record { list = after_item doc.now (after_head doc.now 0); number = k + 1; place = end } }
 {
-    Near::Entry(modules_at(doc), k + 1, end)
+    Near {
+        list: modules_at(doc),
+        number: k + 1,
+        place: end,
+    }
 }
 
 // What is said of a finding, by its words.
-pub(crate) fn say_words(doc: &[u8], owner: usize, site: u32, i: usize, j: usize) -> Said
+#[tactic(auto, using(crate::proofs::EntryLaws::no_module_kept, crate::proofs::WordsLaws::words_none, crate::proofs::WordsLaws::words_said))]
+pub(crate) fn say_words(doc: &[u8], owner: usize, site: u32, i: usize, j: usize) -> Option<Said>
     ensures { SaysWords doc.now owner site i j result }
 {
-    let f = module_at(doc, owner, Near::Nothing);
-    let Found::At(at) = f else {
-        return Said::Nothing;
-    };
+    let at = module_at(doc, owner, None)?;
     say_in(doc, at, site, i, j)
 }
 
 // Writes what is said, if out has room for it.
-pub(crate) fn write(doc: &[u8], site: u32, x: Said, out: &mut [u8]) -> Told
+pub(crate) fn write(doc: &[u8], site: u32, x: Option<Said>, out: &mut [u8]) -> Result<usize, Untold>
     requires { length doc.now ≤ 0xffff }
     ensures value { result ≡ sized out.old (saying_text site (saying_of doc.now x)) }
     ensures out_after { out.new ≡ filled out.old (saying_text site (saying_of doc.now x)) }
@@ -162,8 +161,7 @@ pub(crate) fn write(doc: &[u8], site: u32, x: Said, out: &mut [u8]) -> Told
     let mut spare = [0u8; 1];
     let n = put_said(&mut spare, 0, doc, site, x);
     if out.len() < n {
-        return Told::Short(n);
+        return Err(Untold::Short(n));
     }
-    let w = put_said(out, 0, doc, site, x);
-    Told::Written(w)
+    Ok(put_said(out, 0, doc, site, x))
 }

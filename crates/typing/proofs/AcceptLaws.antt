@@ -1,4 +1,5 @@
 -- What each step of the judging of a pattern's field gives, for whatever reads there.
+use Rattle.std.specs.Prelude.{Option, Some, None, Ok, Err}
 use Prim.Native.Nat.{ℕ, ◌<◌, ◌≤◌}
 use mathlib.Core.Path.{◌≡◌, refl, sym, ap, ◌∙◌}
 use mathlib.Core.Bool.{Bool, true, false}
@@ -17,17 +18,12 @@ use Rattle.reading.specs.Decl as decl
 use Rattle.reading.specs.Pattern.{PatternExpr}
 use Rattle.reading.specs.Pattern as pattern
 use Rattle.reading.specs.Skip.{text_at}
-use Rattle.reading.specs.Link.{answer, tagged_of}
+use Rattle.reading.specs.Link.{answer}
 use Rattle.reading.specs.Views.{TyAt, bool_ty, bit_ty, enum_ty, PatternExprAt, wildcard_pattern, bind_pattern, int_pattern, bool_pattern, path_pattern}
 use Rattle.reading.specs.declared.cursor.Cursor.{Cursor}
-use Rattle.reading.specs.declared.fault.Fault.{Fault}
-use Rattle.reading.specs.declared.item.Answer.{Answer}
-use Rattle.reading.specs.declared.item.Answer.TheVariants.{Got, Refused}
 use Rattle.reading.specs.declared.item.Tag.{Tag}
-use Rattle.reading.specs.declared.item.Tagged.{Tagged}
-use Rattle.reading.specs.declared.item.Tagged.TheVariants as tagged
 use Rattle.reading.proofs.Rules.{no}
-use Rattle.reading.proofs.Answers.{num, out}
+use Rattle.reading.proofs.Answers.{got, out}
 use Rattle.reading.proofs.CaseViews.{ty_at, pattern_expr_at, by_tag}
 use Rattle.reading.proofs.ListViews.{list_at}
 use Rattle.reading.proofs.Walks.{name_text}
@@ -35,66 +31,64 @@ use Rattle.typing.specs.Types.{type_to_expr_type}
 use Rattle.typing.specs.Causes.{variant_path, variant_on_non_enum}
 use Rattle.typing.specs.Names.{eq_name}
 use Rattle.typing.specs.Patterns.{fits, variant_of, pattern_expr_compatible}
-use Rattle.typing.specs.Means.{ty_of, cause_of, names_of, unfit_of}
+use Rattle.typing.specs.Means.{ty_of, cause_of, names_of, unfit_of, Fit}
 use Rattle.typing.specs.Table.{expr_type_at}
 use Rattle.typing.specs.Accepts.{int_on, bool_on, enum_name, name_found, EnumOf, VariantOf, AcceptsInt, AcceptsPath, Accepts}
 use Rattle.typing.specs.declared.ty.Ty.{Ty as CodeTy}
 use Rattle.typing.specs.declared.ty.Ty.TheVariants as ty
 use Rattle.typing.specs.declared.cause.Cause.TheVariants.{IntegerOnBool, IntegerOnEnum, DoesNotFit, VariantOnNonEnum, VariantPath}
-use Rattle.typing.specs.declared.rules.Fit.{Fit}
-use Rattle.typing.specs.declared.rules.Fit.TheVariants.{Fine, Unfit}
-use Rattle.typing.specs.declared.table.Found.{Found}
-use Rattle.typing.specs.declared.table.Found.TheVariants.{At, Nothing}
 use Rattle.typing.proofs.TableLaws.{tag_was, tag_out}
 use Rattle.typing.proofs.EnvLaws.{entry, type_is}
-
 -- an integer literal
-module _ (s : List ℕ) (at : ℕ) (τ : CodeTy) {a : Answer} (e : a ≡ answer (read_number max_u64 s at)) where
-  pub int_none : (r : Fit) {f : Fault} {p : ℕ} → a ≡ Refused f p → AcceptsInt s at (ty_of s τ) r
+use Rattle.std.specs.Prelude.{Result}
+use Rattle.reading.specs.declared.fault.Refusal.{Refusal}
+
+module _ (s : List ℕ) (at : ℕ) (τ : CodeTy) {a : Result (ℕ × Cursor) Refusal} (e : a ≡ answer (read_number max_u64 s at)) where
+  pub int_none : (r : Fit) {f : Refusal} → a ≡ Err f → AcceptsInt s at (ty_of s τ) r
   int_none r q = record { of = λ v n g. no (let w = out _ e q in cc) }
 
-  module _ {v : ℕ} {c : Cursor} (q : a ≡ Got v c) where
+  module _ {v : ℕ} {c : Cursor} (q : a ≡ Ok (v, c)) where
     int_is : {r : Fit} → unfit_of s r ≡ int_on v (ty_of s τ) → AcceptsInt s at (ty_of s τ) r
-    int_is h = record { of = λ x n g. let w = num _ e q in let y : v ≡ x = cc in h ∙ ap (λ (z : ℕ). int_on z (ty_of s τ)) y }
+    int_is h = record { of = λ x n g. let w = got _ e q in let y : v ≡ x = cc in h ∙ ap (λ (z : ℕ). int_on z (ty_of s τ)) y }
 
-    pub int_bool : τ ≡ ty.Bool → AcceptsInt s at (ty_of s τ) (Unfit IntegerOnBool)
+    pub int_bool : τ ≡ ty.Bool → AcceptsInt s at (ty_of s τ) (Err IntegerOnBool)
     unfolding int_on ty_of unfit_of cause_of
     int_bool k = int_is (rw k)
 
-    pub int_literal : τ ≡ ty.IntLit → AcceptsInt s at (ty_of s τ) (Unfit IntegerOnBool)
+    pub int_literal : τ ≡ ty.IntLit → AcceptsInt s at (ty_of s τ) (Err IntegerOnBool)
     unfolding int_on ty_of unfit_of cause_of
     int_literal k = int_is (rw k)
 
-    pub int_state : τ ≡ ty.State → AcceptsInt s at (ty_of s τ) (Unfit IntegerOnEnum)
+    pub int_state : τ ≡ ty.State → AcceptsInt s at (ty_of s τ) (Err IntegerOnEnum)
     unfolding int_on ty_of unfit_of cause_of
     int_state k = int_is (rw k)
 
-    pub int_enum : {p : ℕ} → τ ≡ ty.Enum p → AcceptsInt s at (ty_of s τ) (Unfit IntegerOnEnum)
+    pub int_enum : {p : ℕ} → τ ≡ ty.Enum p → AcceptsInt s at (ty_of s τ) (Err IntegerOnEnum)
     unfolding int_on ty_of unfit_of cause_of
     int_enum k = int_is (rw k)
 
     module _ {w : ℕ} {b : Bool} (k : τ ≡ ty.Bit w) (f : b ≡ fits v w) where
-      pub int_fits : b ≡ true → AcceptsInt s at (ty_of s τ) Fine
+      pub int_fits : b ≡ true → AcceptsInt s at (ty_of s τ) (Ok tt)
       unfolding int_on ty_of unfit_of pick
       int_fits z = int_is (rw (k, sym f ∙ z))
 
-      pub int_wide : b ≡ false → AcceptsInt s at (ty_of s τ) (Unfit (DoesNotFit v w))
+      pub int_wide : b ≡ false → AcceptsInt s at (ty_of s τ) (Err (DoesNotFit v w))
       unfolding int_on ty_of unfit_of pick cause_of
       int_wide z = int_is (rw (k, sym f ∙ z))
 
 -- a path's first name
-module _ (s : List ℕ) (at : ℕ) (w : Name) {a : Answer} (e : a ≡ answer (read_count max_path s at)) where
-  pub segments_none : (r : Bool) {f : Fault} {p : ℕ} → a ≡ Refused f p → VariantOf s at w r
+module _ (s : List ℕ) (at : ℕ) (w : Name) {a : Result (ℕ × Cursor) Refusal} (e : a ≡ answer (read_count max_path s at)) where
+  pub segments_none : (r : Bool) {f : Refusal} → a ≡ Err f → VariantOf s at w r
   unfolding read_path
   segments_none r q = record { of = λ p n g. let l = list_at read_name s max_path at p n g in no (let x = out _ e q in let y = l.opens in cc) }
 
-  module _ {m : ℕ} {c : Cursor} (q : a ≡ Got m c) where
+  module _ {m : ℕ} {c : Cursor} (q : a ≡ Ok (m, c)) where
     pub segments_few : m < 2 → VariantOf s at w false
     unfolding read_path variant_of
     segments_few h = record {
       of = λ p n g.
           let l = list_at read_name s max_path at p n g in
-          let x = num _ e q in
+          let x = got _ e q in
           let y = l.opens in
           let u : length p ≡ m = cc in
           go p u;
@@ -110,7 +104,7 @@ module _ (s : List ℕ) (at : ℕ) (w : Name) {a : Answer} (e : a ≡ answer (re
     segments_first {b} {key} h f t = record {
       of = λ p n g.
           let l = list_at read_name s max_path at p n g in
-          let x = num _ e q in
+          let x = got _ e q in
           let y = l.opens in
           let u : length p ≡ m = cc in
           let v : l.first ≡ c.at = cc in
@@ -126,12 +120,12 @@ module _ (s : List ℕ) (at : ℕ) (w : Name) {a : Answer} (e : a ≡ answer (re
             f ∙ ap (λ (z : Name). eq_name z w) k
 
 -- the enum that is declared
-module _ (s : List ℕ) (at : ℕ) {a : Tagged} (e : a ≡ tagged_of (read_tag s at)) where
-  pub enum_none : (r : Found) {f : Fault} {p : ℕ} → a ≡ tagged.Refused f p → EnumOf s at r
+module _ (s : List ℕ) (at : ℕ) {a : Result (Tag × Cursor) Refusal} (e : a ≡ answer (read_tag s at)) where
+  pub enum_none : (r : Option ℕ) {f : Refusal} → a ≡ Err f → EnumOf s at r
   enum_none r q = record { of = λ t n g. let v = ty_at s at t n g in let u = v.tagged in let w = tag_out _ e q in no (cc) }
 
-  module _ {t : Tag} {c : Cursor} (q : a ≡ tagged.Case t c) where
-    pub enum_not : t.case < 2 → EnumOf s at Nothing
+  module _ {t : Tag} {c : Cursor} (q : a ≡ Ok (t, c)) where
+    pub enum_not : t.case < 2 → EnumOf s at None
     unfolding enum_name name_found
     enum_not k = record { of = λ x n g. go (by_tag (ty_at s at x n g) (tag_was _ e q)) k }
       where
@@ -140,7 +134,7 @@ module _ (s : List ℕ) (at : ℕ) {a : Tagged} (e : a ≡ tagged_of (read_tag s
         go (bit_ty r) i = refl
         go (enum_ty r) i = absurd (omega arith)
 
-    pub enum_is : (t.case ≡ 0 → ⊥) → (t.case ≡ 1 → ⊥) → EnumOf s at (At c.at)
+    pub enum_is : (t.case ≡ 0 → ⊥) → (t.case ≡ 1 → ⊥) → EnumOf s at (Some c.at)
     unfolding enum_name name_found
     enum_is k l = record { of = λ x n g. go (by_tag (ty_at s at x n g) (tag_was _ e q)) k l }
       where
@@ -149,10 +143,10 @@ module _ (s : List ℕ) (at : ℕ) {a : Tagged} (e : a ≡ tagged_of (read_tag s
         go (bit_ty r) i j = absurd (j refl)
         go (enum_ty r) i j = ap some (name_text s c.at _ _ r)
 
-    pub enum_bool : t.case ≡ 0 → EnumOf s at Nothing
+    pub enum_bool : t.case ≡ 0 → EnumOf s at None
     enum_bool k = enum_not (omega arith)
 
-    pub enum_bit : t.case ≡ 1 → EnumOf s at Nothing
+    pub enum_bit : t.case ≡ 1 → EnumOf s at None
     enum_bit k = enum_not (omega arith)
 
 -- a path on a type
@@ -168,20 +162,20 @@ path_enum p decl.bool w e = no (cc)
 path_enum p (decl.bit v) w e = no (cc)
 path_enum p (decl.enum n) w e = let q : n ≡ w = cc in rw q
 
-module _ (s : List ℕ) (at ty : ℕ) {f : Found} (e : EnumOf s ty f) where
-  pub path_non_enum : f ≡ Nothing → AcceptsPath s at ty (Unfit VariantOnNonEnum)
+module _ (s : List ℕ) (at ty : ℕ) {f : Option ℕ} (e : EnumOf s ty f) where
+  pub path_non_enum : f ≡ None → AcceptsPath s at ty (Err VariantOnNonEnum)
   unfolding unfit_of cause_of name_found
   path_non_enum q = record { of = λ p n t m g h. sym (path_on p t (sym (e.of t m h) ∙ ap (name_found s) q)) }
 
-  module _ {k : ℕ} {w : Name} {b : Bool} (q : f ≡ At k) (u : w ≡ text_at s k) (v : VariantOf s at w b) where
-    pub path_fine : b ≡ true → AcceptsPath s at ty Fine
+  module _ {k : ℕ} {w : Name} {b : Bool} (q : f ≡ Some k) (u : w ≡ text_at s k) (v : VariantOf s at w b) where
+    pub path_fine : b ≡ true → AcceptsPath s at ty (Ok tt)
     unfolding unfit_of name_found pick
     path_fine z = record {
       of = λ p n t m g h.
           rw (path_enum p t w (sym (e.of t m h) ∙ ap (name_found s) q ∙ ap some (sym u)), sym (v.of p n g) ∙ z);
     }
 
-    pub path_other : b ≡ false → AcceptsPath s at ty (Unfit (VariantPath at k))
+    pub path_other : b ≡ false → AcceptsPath s at ty (Err (VariantPath at k))
     unfolding unfit_of name_found pick cause_of names_of
     path_other z = record {
       of = λ p n t m g h.
@@ -202,15 +196,15 @@ bool_on_lem b (decl.bit w) = refl
 bool_on_lem b (decl.enum n) = refl
 
 -- the pattern of a field
-module _ (s : List ℕ) (at ty : ℕ) {a : Tagged} (e : a ≡ tagged_of (read_tag s at)) where
-  pub accepts_none : (r : Fit) {f : Fault} {p : ℕ} → a ≡ tagged.Refused f p → Accepts s at ty r
+module _ (s : List ℕ) (at ty : ℕ) {a : Result (Tag × Cursor) Refusal} (e : a ≡ answer (read_tag s at)) where
+  pub accepts_none : (r : Fit) {f : Refusal} → a ≡ Err f → Accepts s at ty r
   accepts_none r q = record { of = λ x n t m g h. let v = pattern_expr_at s at x n g in let u = v.tagged in let w = tag_out _ e q in no (cc) }
 
-  module _ {t : Tag} {c : Cursor} (q : a ≡ tagged.Case t c) where
+  module _ {t : Tag} {c : Cursor} (q : a ≡ Ok (t, c)) where
     by_case : {r : Fit} → ((x : PatternExpr) (n : ℕ) → PatternExprAt s c.at t.case x n → (y : Ty) (m : ℕ) → read_ty s ty ≡ ok y m → unfit_of s r ≡ pattern_expr_compatible x y) → Accepts s at ty r
     by_case h = record { of = λ x n y m g i. h x n (by_tag (pattern_expr_at s at x n g) (tag_was _ e q)) y m i }
 
-    pub accepts_wildcard : t.case ≡ 0 → Accepts s at ty Fine
+    pub accepts_wildcard : t.case ≡ 0 → Accepts s at ty (Ok tt)
     unfolding unfit_of pattern_expr_compatible
     accepts_wildcard k = by_case λ x n y z m i. go y k z
       where
@@ -221,7 +215,7 @@ module _ (s : List ℕ) (at ty : ℕ) {a : Tagged} (e : a ≡ tagged_of (read_ta
         go (bool_pattern u) i y = absurd (omega arith)
         go (path_pattern u) i y = absurd (omega arith)
 
-    pub accepts_bind : t.case ≡ 1 → Accepts s at ty Fine
+    pub accepts_bind : t.case ≡ 1 → Accepts s at ty (Ok tt)
     unfolding unfit_of pattern_expr_compatible
     accepts_bind k = by_case λ x n y z m i. go y k z
       where

@@ -1,4 +1,5 @@
 -- The fields of a pattern that have no name of one before them, counted by a table of the names passed.
+use Rattle.std.specs.Prelude.{Option, Some, None}
 use Prim.Native.Nat.{ℕ, zero, suc, ◌+◌, ◌<◌, ◌≤◌}
 use mathlib.Core.Path.{◌≡◌, refl, sym, ap, ◌∙◌}
 use mathlib.Core.Bool.{Bool, true, false}
@@ -17,8 +18,6 @@ use Rattle.typing.specs.Env.{given}
 use Rattle.typing.specs.Table.{after_item, after_head, find_first, found}
 use Rattle.typing.specs.Lanes.{Lanes, Laned}
 use Rattle.typing.specs.Fields.{field_named, named_from, stepped, Apart, named_among, PutsName}
-use Rattle.typing.specs.declared.table.Found.{Found}
-use Rattle.typing.specs.declared.table.Found.TheVariants.{At, Nothing}
 use Rattle.typing.proofs.NameLaws.{eq_name_eq}
 use Rattle.typing.proofs.TableLaws.{given_at, given_not, given_pick}
 use Rattle.typing.proofs.LaneLaws.{put, pair_laned, pair_found}
@@ -66,15 +65,15 @@ module _ (s : List ℕ) (at : ℕ) (names : List ℕ) (m : ℕ) where
     unfolding named_among pick
     among_null q = rw (sym h, sym e ∙ q)
 
-    module _ (q : b ≡ false) {t : Name} {f : Found} (i : t ≡ text_at s k) (g : f ≡ found (find_first s t names m)) where
+    module _ (q : b ≡ false) {t : Name} {f : Option ℕ} (i : t ≡ text_at s k) (g : f ≡ found (find_first s t names m)) where
       among_text : given (find_first s t names m) ≡ named_among s at names m
       unfolding named_among pick
       among_text = rw (sym h, sym e ∙ q, i)
 
-      pub among_found : {v : ℕ} → f ≡ At v → true ≡ named_among s at names m
+      pub among_found : {v : ℕ} → f ≡ Some v → true ≡ named_among s at names m
       among_found z = given_at (find_first s t names m) g z ∙ among_text
 
-      pub among_not : f ≡ Nothing → false ≡ named_among s at names m
+      pub among_not : f ≡ None → false ≡ named_among s at names m
       among_not z = given_not (find_first s t names m) g z ∙ among_text
 
 -- it is put after them

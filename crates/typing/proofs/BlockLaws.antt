@@ -1,11 +1,11 @@
 -- A block whose pairs are on their lanes has what its pairs have: a walk along a name's lane passes no pair of the name.
+use Rattle.std.specs.Prelude.{Option as Maybe, Some, None}
 use Prim.Native.Nat.{ℕ, zero, suc, ◌+◌, ◌-◌, ◌*◌, ◌/◌, ◌%◌, ◌^◌, ◌<◌, ◌≤◌}
 use mathlib.Core.Path.{◌≡◌, refl, sym, ap, subst, ◌∙◌}
 use mathlib.Core.Bool.{Bool, true, false}
 use mathlib.Core.List.{List, [], ◌∷◌}
 use mathlib.Core.Option.{Option, none, some}
 use native.Mathlib.Omega.{arith}
-use native.Mathlib.Decide.{ℕ_discrete}
 use lib.ListN.{length, get_or, set, take, length-set}
 use lib.Seq.{sets, length-sets, get_or-take, get_or-set_same, get_or-set_other, take-set-le}
 use lib.Dec.{eqb, ltb}
@@ -21,8 +21,6 @@ use Rattle.typing.specs.Causes.{first_of}
 use Rattle.typing.specs.Table.{pairs_of, pairs_at, Filled, find_first, found}
 use Rattle.typing.specs.Lanes.{print_by, print, factor, spread}
 use Rattle.typing.specs.Blocks.{name_in, under_in, head_in, link_in, key_in, block_lane, lane_in, SameName, BlockWoven, link_from, along_lane, block_find, find_blocks, find_in, enum_find, Keeps, Weaves, Clears}
-use Rattle.typing.specs.declared.table.Found.{Found}
-use Rattle.typing.specs.declared.table.Found.TheVariants.{At, Nothing}
 use Rattle.typing.proofs.NameLaws.{eq_name_eq}
 use Rattle.typing.proofs.TableLaws.{pairs_length, first_none, first_hit, first_miss}
 use Rattle.typing.proofs.LaneLaws.{Links, woven_none, woven_kept, links_head, links_past, woven_more, lane_apart, find_past}
@@ -43,7 +41,7 @@ lane_first n {key} e q r = lane_is n key (omega arith) q r
 
 -- x stands under a name along a lane from p on, in f steps at most
 module _ (s : List ℕ) (n : Name) (T : List ℕ) (o f p : ℕ) {x : Option ℕ} (r : along_lane f s n T o p ≡ x) where
-  pub lane_over : f ≤ 0 → Nothing ≡ found x
+  pub lane_over : f ≤ 0 → None ≡ found x
   unfolding along_lane found
   lane_over h = let z : f ≡ 0 = omega arith in ap found (sym (ap (λ (g : ℕ). along_lane g s n T o p) z) ∙ r)
 
@@ -52,12 +50,12 @@ module _ (s : List ℕ) (n : Name) (T : List ℕ) (o f p : ℕ) {x : Option ℕ}
     unfolding along_lane
     lane_step = let k : f ≡ suc (f - 1) = omega arith in sym r ∙ ap (λ (g : ℕ). along_lane g s n T o p) k
 
-    pub lane_end : p ≡ 0 → Nothing ≡ found x
+    pub lane_end : p ≡ 0 → None ≡ found x
     unfolding found pick
     lane_end e = rw (lane_step, eq-eqb p 0 e)
 
     module _ (d : p ≡ 0 → ⊥) where
-      pub lane_out : 255 < p → Nothing ≡ found x
+      pub lane_out : 255 < p → None ≡ found x
       unfolding found pick
       lane_out e = rw (lane_step, ne_eqb p 0 d, lt-ltb 255 p e)
 
@@ -66,7 +64,7 @@ module _ (s : List ℕ) (n : Name) (T : List ℕ) (o f p : ℕ) {x : Option ℕ}
         unfolding pick
         lane_pair = rw (lane_step, ne_eqb p 0 d, le-ltb 255 p l, sym t, sym e)
 
-        pub lane_hit : b ≡ true → At (under_in T o (p - 1)) ≡ found x
+        pub lane_hit : b ≡ true → (Some (under_in T o (p - 1))) ≡ found x
         unfolding found pick
         lane_hit q = rw (lane_pair, q)
 
@@ -80,19 +78,19 @@ lane_start s n T o e = ap (λ (h : ℕ). along_lane 255 s n T o (head_in T o h))
 
 -- what stands under a name in the first b blocks
 module _ (s : List ℕ) (n : Name) (T : List ℕ) (b : ℕ) {x : Option ℕ} (r : find_blocks b s n T ≡ x) where
-  pub blocks_none : b ≤ 0 → Nothing ≡ found x
+  pub blocks_none : b ≤ 0 → None ≡ found x
   unfolding find_blocks found
   blocks_none h = let z : b ≡ 0 = omega arith in ap found (sym (ap (λ (c : ℕ). find_blocks c s n T) z) ∙ r)
 
-  module _ (h : 0 < b) {f : Found} (e : f ≡ found (block_find s n T (829 * (b - 1)))) where
+  module _ (h : 0 < b) {f : Maybe ℕ} (e : f ≡ found (block_find s n T (829 * (b - 1)))) where
     last_block : x ≡ first_of (block_find s n T (829 * (b - 1))) (find_blocks (b - 1) s n T)
     unfolding find_blocks
     last_block = let k : b ≡ suc (b - 1) = omega arith in sym r ∙ ap (λ (c : ℕ). find_blocks c s n T) k
 
-    pub blocks_hit : {place : ℕ} → f ≡ At place → At place ≡ found x
+    pub blocks_hit : {place : ℕ} → f ≡ Some place → (Some place) ≡ found x
     blocks_hit q = sym q ∙ first_hit (block_find s n T (829 * (b - 1))) (find_blocks (b - 1) s n T) e q ∙ ap found (sym last_block)
 
-    pub blocks_miss : f ≡ Nothing → find_blocks (b - 1) s n T ≡ x
+    pub blocks_miss : f ≡ None → find_blocks (b - 1) s n T ≡ x
     blocks_miss q = first_miss (block_find s n T (829 * (b - 1))) (find_blocks (b - 1) s n T) e q ∙ sym last_block
 
 pub blocks_start : (s : List ℕ) (n : Name) (T : List ℕ) → find_blocks (length T / 829) s n T ≡ find_in s n T
@@ -102,28 +100,6 @@ blocks_start s n T = refl
 -- the words before a block's heads
 pub word_kept : (T T' : List ℕ) (m : ℕ) → take m T' ≡ take m T → (j : ℕ) → j < m → get_or T' j 0 ≡ get_or T j 0
 word_kept T T' m e j h = sym (get_or-take m T' j 0 h) ∙ ap (λ (l : List ℕ). get_or l j 0) e ∙ get_or-take m T j 0 h
-
--- lanes are emptied one by one
-pub clears_none : (T : List ℕ) (o : ℕ) → Clears T o 0 T
-clears_none T o = record { size = refl; kept = refl; empty = λ j h. absurd (omega arith) }
-
-pub clears_more : {T T' : List ℕ} {o h : ℕ} → Clears T o h T' → o + 829 ≤ length T → h < 63 → Clears T o (h + 1) (set T' (o + 510 + h) 0)
-clears_more {T} {T'} {o} {h} c l m = record {
-  size = length-set T' (o + 510 + h) 0 ∙ c.size;
-  kept = take-set-le (o + 510) T' (o + 510 + h) 0 (omega arith) ∙ c.kept;
-  empty = λ j a. at j a (ℕ_discrete j h);
-}
-  where
-    at : (j : ℕ) → j < h + 1 → Dec (j ≡ h) → head_in (set T' (o + 510 + h) 0) o j ≡ 0
-    at j a (yes e) = ap (λ (i : ℕ). head_in (set T' (o + 510 + h) 0) o i) e ∙ get_or-set_same T' (o + 510 + h) 0 0 (let z = c.size in omega arith)
-    at j a (no d) = get_or-set_other T' (o + 510 + h) (o + 510 + j) 0 0 (λ (e : o + 510 + j ≡ o + 510 + h). d (omega arith)) ∙ c.empty j (omega arith)
-
-pub clears_all : {T T' : List ℕ} {o h : ℕ} (key : ℕ) → Clears T o h T' → 63 ≤ h → Clears T o 63 (set T' (o + 573) key)
-clears_all {T} {T'} {o} {h} key c l = record {
-  size = length-set T' (o + 573) key ∙ c.size;
-  kept = take-set-le (o + 510) T' (o + 573) key (omega arith) ∙ c.kept;
-  empty = λ j a. get_or-set_other T' (o + 573) (o + 510 + j) key 0 (λ (e : o + 510 + j ≡ o + 573). omega arith) ∙ c.empty j (omega arith);
-}
 
 -- the lanes of a cleared block
 pub weaves_none : {s T T' : List ℕ} {o : ℕ} → Clears T o 63 T' → Weaves s T' o 0 T'
@@ -340,7 +316,7 @@ module _ (s : List ℕ) (n : Name) (T : List ℕ) where
   unfolding find_in find_blocks
   two_blocks l = let h : length T / 829 ≡ 2 = omega arith in ap (λ (b : ℕ). find_blocks b s n T) h ∙ ap (first_of (block_find s n T 829)) (first_none (block_find s n T 0))
 
-  pub enum_short : length T < 829 → Nothing ≡ found (enum_find s n T)
+  pub enum_short : length T < 829 → None ≡ found (enum_find s n T)
   unfolding enum_find found pick
   enum_short l = rw (lt-ltb (length T) 829 l)
 
@@ -348,5 +324,5 @@ module _ (s : List ℕ) (n : Name) (T : List ℕ) where
   unfolding enum_find pick
   enum_block l = rw (le-ltb (length T) 829 l)
 
-  pub enum_in_block : {f : Found} → 829 ≤ length T → f ≡ found (block_find s n T 0) → f ≡ found (enum_find s n T)
+  pub enum_in_block : {f : Maybe ℕ} → 829 ≤ length T → f ≡ found (block_find s n T 0) → f ≡ found (enum_find s n T)
   enum_in_block l e = e ∙ ap found (sym (enum_block l))

@@ -15,17 +15,12 @@ use Rattle.reading.specs.Decl.{ConstructorVariant, read_field_decl, read_constru
 use Rattle.reading.specs.Decl as decl
 use Rattle.reading.specs.Pattern.{PatternVariant, read_pattern_field, read_pattern_variant}
 use Rattle.reading.specs.Pattern as pattern
-use Rattle.reading.specs.Link.{answer, tagged_of}
+use Rattle.reading.specs.Link.{answer}
 use Rattle.reading.specs.Views.{ConstructorVariantAt, unit_variant, struct_variant, PatternVariantAt, unit_pattern, struct_pattern}
 use Rattle.reading.specs.declared.cursor.Cursor.{Cursor}
-use Rattle.reading.specs.declared.fault.Fault.{Fault}
-use Rattle.reading.specs.declared.item.Answer.{Answer}
-use Rattle.reading.specs.declared.item.Answer.TheVariants.{Got, Refused}
 use Rattle.reading.specs.declared.item.Tag.{Tag}
-use Rattle.reading.specs.declared.item.Tagged.{Tagged}
-use Rattle.reading.specs.declared.item.Tagged.TheVariants as tagged
 use Rattle.reading.proofs.Rules.{no}
-use Rattle.reading.proofs.Answers.{num, out}
+use Rattle.reading.proofs.Answers.{got, out}
 use Rattle.reading.proofs.ItemLaws.{count_kind}
 use Rattle.reading.proofs.ExprLaws.{name_laws}
 use Rattle.reading.proofs.CaseViews.{constructor_variant_at, pattern_variant_at}
@@ -36,18 +31,22 @@ use Rattle.typing.specs.Entries.{opened, Entered, case_is, case_at, given_fields
 use Rattle.typing.specs.declared.entries.Entries.{Entries}
 use Rattle.typing.proofs.TableLaws.{tag_was, tag_out, tag_to}
 use Rattle.typing.proofs.EnvLaws.{entry, after_is}
+use Rattle.std.specs.Prelude.{Result}
+use Rattle.std.specs.Prelude.{Ok}
+use Rattle.std.specs.Prelude.{Err}
+use Rattle.reading.specs.declared.fault.Refusal.{Refusal}
 
-module _ (s : List ℕ) (at : ℕ) {a : Answer} (e : a ≡ answer (read_count max_list s at)) where
-  pub opened_got : {c : ℕ} {k : Cursor} → a ≡ Got c k → record { many = c; first = k.at } ≡ opened (read_count max_list s at)
+module _ (s : List ℕ) (at : ℕ) {a : Result (ℕ × Cursor) Refusal} (e : a ≡ answer (read_count max_list s at)) where
+  pub opened_got : {c : ℕ} {k : Cursor} → a ≡ Ok (c, k) → record { many = c; first = k.at } ≡ opened (read_count max_list s at)
   unfolding opened
-  opened_got q = rw (num _ e q)
+  opened_got q = rw (got _ e q)
 
-  pub opened_none : {f : Fault} {p : ℕ} → a ≡ Refused f p → record { many = 0; first = p } ≡ opened (read_count max_list s at)
+  pub opened_none : {f : Refusal} → a ≡ Err f → record { many = 0; first = f.place } ≡ opened (read_count max_list s at)
   unfolding opened
   opened_none q = rw (out _ e q)
 
-  pub opened_few : {c : ℕ} {k : Cursor} → a ≡ Got c k → c ≤ 255
-  opened_few {c} {k} q = (count_kind s at max_list c k.at (num _ e q)).1
+  pub opened_few : {c : ℕ} {k : Cursor} → a ≡ Ok (c, k) → c ≤ 255
+  opened_few {c} {k} q = (count_kind s at max_list c k.at (got _ e q)).1
 
 -- the entries of a list that was opened
 pub entered : {A : Type 0} (F : Reader A) (s : List ℕ) (at : ℕ) {r : Entries} → r ≡ opened (read_count max_list s at) → (xs : List A) (n : ℕ) → list_of max_list F s at ≡ ok xs n → Entered F s r.many r.first xs
@@ -127,12 +126,12 @@ module _ {A : Type 0} {B : Type 0} {F : Reader A} {f : List A → B} {s : List �
     }
 
 -- the case of a data enum
-module _ (s : List ℕ) (at k : ℕ) {a : Tagged} (e : a ≡ tagged_of (read_tag s at)) where
-  pub case_was : {t : Tag} {c : Cursor} → a ≡ tagged.Case t c → eqb t.case k ≡ case_at s at k
+module _ (s : List ℕ) (at k : ℕ) {a : Result (Tag × Cursor) Refusal} (e : a ≡ answer (read_tag s at)) where
+  pub case_was : {t : Tag} {c : Cursor} → a ≡ Ok (t, c) → eqb t.case k ≡ case_at s at k
   unfolding case_is
   case_was q = rw (tag_was _ e q)
 
-  pub case_none : {f : Fault} {p : ℕ} → a ≡ tagged.Refused f p → false ≡ case_at s at k
+  pub case_none : {f : Refusal} → a ≡ Err f → false ≡ case_at s at k
   unfolding case_is
   case_none q = rw (tag_out _ e q)
 
@@ -194,11 +193,11 @@ module _ (s : List ℕ) (at : ℕ) {b : Bool} (e : b ≡ case_at s at 1) where
       declared {m} (struct_variant u w) y i = entered read_field_decl s l h _ _ (ap (list_of max_list read_field_decl s) (o.is ∙ ap (after_item s) y ∙ after_is name_laws s o.each m _ _ u) ∙ w)
 
 -- by the head that was read
-module _ (s : List ℕ) (at : ℕ) {a : Tagged} (e : a ≡ tagged_of (read_tag s at)) where
-  pub fields_none : {f : Fault} {p : ℕ} → a ≡ tagged.Refused f p → FieldsAt s at (record { many = 0; first = at })
+module _ (s : List ℕ) (at : ℕ) {a : Result (Tag × Cursor) Refusal} (e : a ≡ answer (read_tag s at)) where
+  pub fields_none : {f : Refusal} → a ≡ Err f → FieldsAt s at (record { many = 0; first = at })
   fields_none q = fields_unit s at (case_none s at 1 e q) refl
 
-  module _ {t : Tag} {c : Cursor} (q : a ≡ tagged.Case t c) where
+  module _ {t : Tag} {c : Cursor} (q : a ≡ Ok (t, c)) where
     pub fields_other : (t.case ≡ 1 → ⊥) → FieldsAt s at (record { many = 0; first = at })
     fields_other z = fields_unit s at (case_was s at 1 e q) (ne_eqb t.case 1 z)
 

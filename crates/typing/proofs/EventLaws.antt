@@ -1,4 +1,5 @@
 -- What each step of the judging of an event pattern gives, for whatever reads there.
+use Rattle.std.specs.Prelude.{Option as Maybe, Some, None, Ok}
 use Prim.Native.Nat.{ℕ}
 use mathlib.Core.Path.{◌≡◌, refl, sym, subst, ◌∙◌}
 use mathlib.Core.Bool.{Bool, true, false}
@@ -34,11 +35,8 @@ use Rattle.typing.specs.Fields.{JudgesFields}
 use Rattle.typing.specs.Event.{blamed, JudgesStruct, JudgesVariant, JudgesGroup}
 use Rattle.typing.specs.declared.cause.Cause.{Cause}
 use Rattle.typing.specs.declared.cause.Cause.TheVariants.{UnknownEventGroup, UnknownEventVariant, FieldCount, UnitWithFields, FieldsWithout}
-use Rattle.typing.specs.declared.cause.Blame.TheVariants as blames
 use Rattle.typing.specs.declared.cause.Bindings.{Bindings}
 use Rattle.typing.specs.declared.entries.Entries.{Entries}
-use Rattle.typing.specs.declared.table.Found.{Found}
-use Rattle.typing.specs.declared.table.Found.TheVariants.{At, Nothing}
 use Rattle.typing.proofs.EntryLaws.{has_fields, declares_fields, pattern_fields, declared_fields}
 use Rattle.typing.proofs.PartLaws.{option_null, option_there, pattern_group, pattern_variant, pattern_text}
 use Rattle.typing.proofs.FirstLaws.{found_no, found_yes, called_is}
@@ -52,10 +50,10 @@ binds_alone s table k q e = rw q (record { fault = rw e; pairs = []; are = none_
 pub alone_spares : (table : List ℕ) (k : ℕ) {c : Cause} {r : Bindings} → r ≡ blamed c → Spares table k r table
 alone_spares table k q = rw q (record { few = omega arith; kept = refl })
 
-pub nothing_spares : (table : List ℕ) (k : ℕ) → Spares table k (record { blame = blames.Nothing; words = 0 }) table
+pub nothing_spares : (table : List ℕ) (k : ℕ) → Spares table k (record { blame = Ok tt; words = 0 }) table
 nothing_spares table k = record { few = omega arith; kept = refl }
 
-binds_nothing : (s table : List ℕ) (k : ℕ) → Binds s table k (judged none) (record { blame = blames.Nothing; words = 0 }) table
+binds_nothing : (s table : List ℕ) (k : ℕ) → Binds s table k (judged none) (record { blame = Ok tt; words = 0 }) table
 unfolding blame_of
 binds_nothing s table k = record { fault = refl; pairs = []; are = none_bound; many = refl; words = refl }
 
@@ -96,11 +94,11 @@ module _ (s : List ℕ) (at declared : ℕ) (table : List ℕ) (k : ℕ) {a b : 
       go (pattern.struct v xs) n (decl.unit w) m f g x y = no (cc)
       go (pattern.struct v xs) n (decl.struct w fs) m f g x y = e.of v xs n w fs m f g
 
-  pub variant_units : b ≡ false → a ≡ false → JudgesVariant s at declared table k (record { blame = blames.Nothing; words = 0 }) table
+  pub variant_units : b ≡ false → a ≡ false → JudgesVariant s at declared table k (record { blame = Ok tt; words = 0 }) table
   unfolding judge_variant
   variant_units p q = by_fields go
     where
-      go : Each s at declared table k a b (record { blame = blames.Nothing; words = 0 }) table
+      go : Each s at declared table k a b (record { blame = Ok tt; words = 0 }) table
       go (pattern.unit v) n (decl.unit w) m f g x y = binds_nothing s table k
       go (pattern.unit v) n (decl.struct w fs) m f g x y = no (cc)
       go (pattern.struct v xs) n d m f g x y = no (cc)
@@ -125,18 +123,18 @@ module _ (s : List ℕ) (at declared : ℕ) (table : List ℕ) (k : ℕ) {a b : 
         go (pattern.struct v xs) n d m f g x y = no (cc)
 
 -- the variant in its group
-module _ (s : List ℕ) (at variants name : ℕ) (table : List ℕ) (k : ℕ) {variant : ℕ} {text : Name} {f : Found} (h : variant ≡ after_tag s at) (t : text ≡ text_at s variant) (i : FirstVariant s variants text f) where
+module _ (s : List ℕ) (at variants name : ℕ) (table : List ℕ) (k : ℕ) {variant : ℕ} {text : Name} {f : Maybe ℕ} (h : variant ≡ after_tag s at) (t : text ≡ text_at s variant) (i : FirstVariant s variants text f) where
   variant_found_lem : (v : PatternVariant) (n : ℕ) (g : ConstructorGroup) (m : ℕ) → read_pattern_variant s at ≡ ok v n → list_of max_list read_constructor_variant s variants ≡ ok g.variants m → FoundAt read_constructor_variant s f (first_called declared_name (pattern_variant_name v) g.variants)
   variant_found_lem v n g m p q = rw (t ∙ pattern_text s at v n h p) at (i.of g.variants m q)
 
-  pub group_none : {r : Bindings} → f ≡ Nothing → r ≡ blamed (UnknownEventVariant variant name) → JudgesGroup s at variants name table k r table
+  pub group_none : {r : Bindings} → f ≡ None → r ≡ blamed (UnknownEventVariant variant name) → JudgesGroup s at variants name table k r table
   unfolding judge_group judge_declared cause_of
   group_none e q = record {
     of = λ v n g m p u z.
         rw (found_no (variant_found_lem v n g m p u) e) (binds_alone s table k q (rw (pattern_text s at v n h p, z)));
   }
 
-  pub group_variant : {declared : ℕ} {r : Bindings} {table' : List ℕ} → f ≡ At declared → JudgesVariant s at declared table k r table' → JudgesGroup s at variants name table k r table'
+  pub group_variant : {declared : ℕ} {r : Bindings} {table' : List ℕ} → f ≡ Some declared → JudgesVariant s at declared table k r table' → JudgesGroup s at variants name table k r table'
   unfolding judge_group judge_declared
   group_variant e q = record {
     of = λ v n g m p u z.
@@ -145,27 +143,27 @@ module _ (s : List ℕ) (at variants name : ℕ) (table : List ℕ) (k : ℕ) {v
   }
 
 -- the pattern
-module _ (s : List ℕ) (at : ℕ) (events table : List ℕ) (k : ℕ) {name : ℕ} {text : Name} {f : Found} (h : name ≡ after_head s at) (t : text ≡ text_at s name) (i : FirstVariants s events text f) where
+module _ (s : List ℕ) (at : ℕ) (events table : List ℕ) (k : ℕ) {name : ℕ} {text : Name} {f : Maybe ℕ} (h : name ≡ after_head s at) (t : text ≡ text_at s name) (i : FirstVariants s events text f) where
   group_found : (gs : List ConstructorGroup) (p : Pattern) (n : ℕ) → GroupsAt s events gs → read_pattern s at ≡ ok p n → GroupFound s f (first_called group_name p.group gs)
   group_found gs p n e g = rw (t ∙ pattern_group s at p n g h) at (i.of gs e)
 
-  pub pattern_none : {r : Bindings} → f ≡ Nothing → r ≡ blamed (UnknownEventGroup name) → JudgesPattern s at events table k r table
+  pub pattern_none : {r : Bindings} → f ≡ None → r ≡ blamed (UnknownEventGroup name) → JudgesPattern s at events table k r table
   unfolding validate_event_pattern judge_named cause_of
   pattern_none e q = record {
     of = λ gs p n a g.
         rw (group_no (group_found gs p n a g) e) (binds_alone s table k q (rw (pattern_group s at p n g h)));
   }
 
-  module _ {variants variant : ℕ} {b : Bool} (e : f ≡ At variants) (o : Past s name variant) (j : b ≡ eqb (get_or s variant 0) 246) where
+  module _ {variants variant : ℕ} {b : Bool} (e : f ≡ Some variants) (o : Past s name variant) (j : b ≡ eqb (get_or s variant 0) 246) where
     variant_stands : (p : Pattern) (n : ℕ) → read_pattern s at ≡ ok p n → OptionAt read_pattern_variant s variant p.variant n
     variant_stands p n g = option_at read_pattern_variant s variant p.variant n (pattern_variant s at p n g h o)
 
-    pub pattern_bare_lem : b ≡ true → JudgesPattern s at events table k (record { blame = blames.Nothing; words = 0 }) table
+    pub pattern_bare_lem : b ≡ true → JudgesPattern s at events table k (record { blame = Ok tt; words = 0 }) table
     unfolding validate_event_pattern judge_named judge_group
     pattern_bare_lem z = record {
       of = λ gs p n a g.
           let x = group_yes (group_found gs p n a g) e in
-          rw x.3 (subst (λ (v : Option PatternVariant). Binds s table k (judge_group x.0 v) (record { blame = blames.Nothing; words = 0 }) table) (sym (option_null j z (variant_stands p n g))) (binds_nothing s table k));
+          rw x.3 (subst (λ (v : Option PatternVariant). Binds s table k (judge_group x.0 v) (record { blame = Ok tt; words = 0 }) table) (sym (option_null j z (variant_stands p n g))) (binds_nothing s table k));
     }
 
     pub variant_goes : {r : Bindings} {table' : List ℕ} → b ≡ false → JudgesGroup s variant variants name table k r table' → JudgesPattern s at events table k r table'

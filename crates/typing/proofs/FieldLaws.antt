@@ -1,4 +1,5 @@
 -- What each step of the judging of one field of a pattern gives, for whatever reads there.
+use Rattle.std.specs.Prelude.{Result, Ok, Err, ⊤}
 use Prim.Native.Nat.{ℕ, suc, ◌+◌, ◌-◌, ◌<◌, ◌≤◌}
 use mathlib.Core.Path.{◌≡◌, refl, sym, ap, ◌∙◌}
 use mathlib.Core.Bool.{Bool, true, false}
@@ -23,7 +24,7 @@ use Rattle.typing.specs.Causes as causes
 use Rattle.typing.specs.Causes.{field, blame}
 use Rattle.typing.specs.Names.{eq_name, member}
 use Rattle.typing.specs.Patterns.{pattern_expr_compatible, judged, bound, or_else, judge_field}
-use Rattle.typing.specs.Means.{cause_of, unfit_of, within_of, blame_of}
+use Rattle.typing.specs.Means.{cause_of, unfit_of, within_of, blame_of, Fit}
 use Rattle.typing.specs.Table.{after_item, after_head, expr_type_at}
 use Rattle.typing.specs.Accepts.{Accepts}
 use Rattle.typing.specs.Blames.{none_bound, more_bound, Binds}
@@ -32,9 +33,6 @@ use Rattle.typing.specs.declared.cause.Cause.{Cause}
 use Rattle.typing.specs.declared.cause.Cause.TheVariants.{DuplicateBinding}
 use Rattle.typing.specs.declared.cause.Within.TheVariants.{Alone, Field}
 use Rattle.typing.specs.declared.cause.Blame.{Blame}
-use Rattle.typing.specs.declared.cause.Blame.TheVariants.{Nothing, Found}
-use Rattle.typing.specs.declared.rules.Fit.{Fit}
-use Rattle.typing.specs.declared.rules.Fit.TheVariants.{Fine, Unfit}
 use Rattle.typing.specs.declared.field.Parts.{Parts}
 use Rattle.typing.specs.declared.field.Naming.{Naming}
 use Rattle.typing.specs.declared.field.Naming.TheVariants.{Unnamed, Again, Fresh}
@@ -108,11 +106,11 @@ module _ (s : List ℕ) (k first i : ℕ) {b : Bool} (e : b ≡ eqb (get_or s k 
 
 -- the pattern against the declared type
 module _ (s : List ℕ) (at : ℕ) (decl : Parts) {fit : Fit} (e : Accepts s at decl.under fit) where
-  pub fits_fine : fit ≡ Fine → FitsField s at decl Nothing
+  pub fits_fine : fit ≡ Ok tt → FitsField s at decl (Ok tt)
   unfolding unfit_of blame_of blame
   fits_fine q = record { of = λ p n t m g i. rw (sym (e.of p n t m g i), q) }
 
-  pub fits_not : {c : Cause} → fit ≡ Unfit c → FitsField s at decl (Found (Field decl.name) c)
+  pub fits_not : {c : Cause} → fit ≡ Err c → FitsField s at decl (Err (record { within = Field decl.name; cause = c }))
   unfolding unfit_of blame_of blame within_of
   fits_not q = record { of = λ p n t m g i. rw (sym (e.of p n t m g i), q) }
 
@@ -148,10 +146,10 @@ is_fresh true w e = no (cc)
 is_fresh false w e = (refl, cc)
 
 module _ (s : List ℕ) (own decl : Parts) (first i : ℕ) {name : Naming} (table : List ℕ) (w : ℕ) (a : NamesField s own.name first i name) where
-  fits_is : {b : Blame} → FitsField s own.under decl b → (x : PatternField) (n : ℕ) (f : FieldDecl) (m : ℕ) → read_pattern_expr s own.under ≡ ok x.pattern n → text_at s decl.name ≡ f.name → read_ty s decl.under ≡ ok f.ty m → blame_of s b ≡ blame (field f.name) (pattern_expr_compatible x.pattern f.ty)
+  fits_is : {b : Result ⊤ Blame} → FitsField s own.under decl b → (x : PatternField) (n : ℕ) (f : FieldDecl) (m : ℕ) → read_pattern_expr s own.under ≡ ok x.pattern n → text_at s decl.name ≡ f.name → read_ty s decl.under ≡ ok f.ty m → blame_of s b ≡ blame (field f.name) (pattern_expr_compatible x.pattern f.ty)
   fits_is e x n f m h l d = rw l at (e.of x.pattern n f.ty m h d)
 
-  pub judge_unnamed : {b : Blame} → name ≡ Unnamed → FitsField s own.under decl b → JudgesField s own decl first i table w (record { blame = b; words = 0 }) table
+  pub judge_unnamed : {b : Result ⊤ Blame} → name ≡ Unnamed → FitsField s own.under decl b → JudgesField s own decl first i table w (record { blame = b; words = 0 }) table
   unfolding named_of name_in judge_field
   judge_unnamed {b} q e = record {
     few = omega arith;
@@ -163,7 +161,7 @@ module _ (s : List ℕ) (own decl : Parts) (first i : ℕ) {name : Naming} (tabl
       go seen x f none z i = rw or_else_none (record { fault = i; pairs = []; are = none_bound; many = refl; words = refl })
       go seen x f (some n) z i = absurd (not_unnamed (member n seen) n z)
 
-  pub judge_again : {k : ℕ} → name ≡ Again k → JudgesField s own decl first i table w (record { blame = Found Alone (DuplicateBinding k); words = 0 }) table
+  pub judge_again : {k : ℕ} → name ≡ Again k → JudgesField s own decl first i table w (record { blame = Err (record { within = Alone; cause = DuplicateBinding k }); words = 0 }) table
   unfolding named_of name_in judge_field pick blame_of within_of cause_of blame
   judge_again {k} q = record {
     few = omega arith;
@@ -171,13 +169,13 @@ module _ (s : List ℕ) (own decl : Parts) (first i : ℕ) {name : Naming} (tabl
     of = λ x l n f m seen g h o d p. go seen x f x.name (sym (ap (named_of s) q) ∙ a.of x.name l seen g p);
   }
     where
-      go : (seen : List Name) (x : PatternField) (f : FieldDecl) (o : Option Name) → again (text_at s k) ≡ name_in seen o → Binds s table w (judge_field no_more seen f x o) (record { blame = Found Alone (DuplicateBinding k); words = 0 }) table
+      go : (seen : List Name) (x : PatternField) (f : FieldDecl) (o : Option Name) → again (text_at s k) ≡ name_in seen o → Binds s table w (judge_field no_more seen f x o) (record { blame = Err (record { within = Alone; cause = DuplicateBinding k }); words = 0 }) table
       go seen x f none z = no (cc)
       go seen x f (some n) z =
           let a = is_again (member n seen) n z in
           rw a.0 (record { fault = rw a.1; pairs = []; are = none_bound; many = refl; words = refl })
 
-  pub judge_fresh : {k : ℕ} {table' : List ℕ} {b : Blame} → name ≡ Fresh k → table' ≡ set (set table w k) (w + 1) decl.under → FitsField s own.under decl b → JudgesField s own decl first i table w (record { blame = b; words = 2 }) table'
+  pub judge_fresh : {k : ℕ} {table' : List ℕ} {b : Result ⊤ Blame} → name ≡ Fresh k → table' ≡ set (set table w k) (w + 1) decl.under → FitsField s own.under decl b → JudgesField s own decl first i table w (record { blame = b; words = 2 }) table'
   unfolding named_of name_in judge_field pick bound
   judge_fresh {k} {table'} {b} q t e = record {
     few = omega arith;

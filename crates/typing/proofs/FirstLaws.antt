@@ -1,4 +1,5 @@
 -- A search for the first entry of a name: what is left of the list decides.
+use Rattle.std.specs.Prelude.{Option as Maybe, Some, None}
 use Prim.Native.Nat.{ℕ, ◌+◌, ◌-◌, ◌%◌, ◌<◌, ◌≤◌}
 use mathlib.Core.Path.{◌≡◌, refl, sym, ap, subst, ◌∙◌}
 use mathlib.Core.Bool.{Bool, true, false}
@@ -14,14 +15,11 @@ use Rattle.reading.specs.Item.{read_count, read_tag}
 use Rattle.reading.specs.Text.{Name}
 use Rattle.reading.specs.Decl.{EnumDecl, ConstructorVariant, read_enum_decl, read_constructor_variant}
 use Rattle.reading.specs.Skip.{text_at}
-use Rattle.reading.specs.Link.{tagged_of}
+use Rattle.reading.specs.Link.{answer}
 use Rattle.reading.specs.Short.{tag_head}
 use Rattle.reading.specs.Views.{ConstructorVariantAt, unit_variant, struct_variant}
 use Rattle.reading.specs.declared.cursor.Cursor.{Cursor}
-use Rattle.reading.specs.declared.fault.Fault.{Fault}
 use Rattle.reading.specs.declared.item.Tag.{Tag}
-use Rattle.reading.specs.declared.item.Tagged.{Tagged}
-use Rattle.reading.specs.declared.item.Tagged.TheVariants as tagged
 use Rattle.reading.proofs.Rules.{no}
 use Rattle.reading.proofs.Short.{tag_short}
 use Rattle.reading.proofs.ListLaws.{list_laws}
@@ -36,22 +34,24 @@ use Rattle.typing.specs.Table.{place_after, after_item, after_head, after_tag, P
 use Rattle.typing.specs.First.{FoundAt, found_here, found_nothing, enum_name, First, FirstEnum, FirstVariant, PastVariant, PastOther, OtherVariant, NextVariant}
 use Rattle.typing.specs.Entries.{opened}
 use Rattle.typing.specs.declared.entries.Entries.{Entries}
-use Rattle.typing.specs.declared.table.Found.{Found}
-use Rattle.typing.specs.declared.table.Found.TheVariants.{At, Nothing}
 use Rattle.typing.proofs.NameLaws.{eq_name_eq}
 use Rattle.typing.proofs.ShortLaws.{ended_after}
 use Rattle.typing.proofs.TableLaws.{tag_was, tag_out}
 use Rattle.typing.proofs.EnvLaws.{after_is}
 use Rattle.typing.proofs.EntryLaws.{entered, Scanning, scan_done, scan_turn, scan_next}
 use Rattle.typing.proofs.PartLaws.{past_at, enum_text, enum_ends}
-
 -- what was found, from what the code learnt of it
+use Rattle.std.specs.Prelude.{Result}
+use Rattle.std.specs.Prelude.{Ok}
+use Rattle.std.specs.Prelude.{Err}
+use Rattle.reading.specs.declared.fault.Refusal.{Refusal}
+
 module _ {A : Type 0} {F : Reader A} {s : List ℕ} where
-  pub found_no : {f : Found} {o : Option A} → FoundAt F s f o → f ≡ Nothing → o ≡ none
+  pub found_no : {f : Maybe ℕ} {o : Option A} → FoundAt F s f o → f ≡ None → o ≡ none
   found_no found_nothing q = refl
   found_no (found_here e) q = no (cc)
 
-  pub found_yes : {f : Found} {o : Option A} {k : ℕ} → FoundAt F s f o → f ≡ At k → (x : A) × (n : ℕ) × (F s k ≡ ok x n) × (o ≡ some x)
+  pub found_yes : {f : Maybe ℕ} {o : Option A} {k : ℕ} → FoundAt F s f o → f ≡ Some k → (x : A) × (n : ℕ) × (F s k ≡ ok x n) × (o ≡ some x)
   found_yes found_nothing q = no (cc)
   found_yes {k = k} (found_here {k = j} e) q = let i : j ≡ k = cc in (_, _, ap (F s) (sym i) ∙ e, refl)
 
@@ -71,17 +71,17 @@ abbrev pub Seeking : {A : Type 0} → Reader A → (A → Name) → List ℕ →
 Seeking F name s w many first left k = Scanning F (first_called name w) s many first left k
 
 module _ {A : Type 0} (F : Reader A) (name : A → Name) (s : List ℕ) (at : ℕ) (w : Name) {e : Entries} (h : e ≡ opened (read_count max_list s at)) (left k : ℕ) (g : Seeking F name s w e.many e.first left k) where
-  pub first_done : left ≤ 0 → First F name s at w Nothing
+  pub first_done : left ≤ 0 → First F name s at w None
   unfolding first_called
-  first_done z = record { of = λ xs n q. subst (FoundAt F s Nothing) (scan_done g z xs (entered F s at h xs n q)) found_nothing }
+  first_done z = record { of = λ xs n q. subst (FoundAt F s None) (scan_done g z xs (entered F s at h xs n q)) found_nothing }
 
   module _ (z : 0 < left) {b : Bool} (t : (x : A) (n : ℕ) → F s k ≡ ok x n → b ≡ eq_name (name x) w) where
-    hit : b ≡ true → First F name s at w (At k)
+    hit : b ≡ true → First F name s at w (Some k)
     unfolding first_called called pick first_of
     hit q = record {
       of = λ xs n i.
           let u = scan_turn g z xs (entered F s at h xs n i) in
-          subst (FoundAt F s (At k)) (rw (sym (t u.head u.end u.here) ∙ q) at u.same) (found_here u.here);
+          subst (FoundAt F s (Some k)) (rw (sym (t u.head u.end u.here) ∙ q) at u.same) (found_here u.here);
     }
 
     miss : {k' : ℕ} → b ≡ false → ((x : A) (n : ℕ) → F s k ≡ ok x n → k' ≡ n) → Seeking F name s w e.many e.first (left - 1) k'
@@ -102,7 +102,7 @@ module _ (s : List ℕ) (at : ℕ) (w : Name) {e : Entries} (o : e ≡ opened (r
   enum_called : (x : EnumDecl) (n : ℕ) → read_enum_decl s k ≡ ok x n → b ≡ eq_name (enum_name x) w
   enum_called x n q = f ∙ ap (λ (y : Name). eq_name y w) (t ∙ ap (text_at s) i ∙ enum_text s k x n q)
 
-  pub enum_hit : b ≡ true → FirstEnum s at w (At k)
+  pub enum_hit : b ≡ true → FirstEnum s at w (Some k)
   enum_hit = hit read_enum_decl enum_name s at w o left k g z enum_called
 
   pub enum_miss : {under k' : ℕ} → b ≡ false → Past s key under → Past s under k' → Seeking read_enum_decl enum_name s w e.many e.first (left - 1) k'
@@ -135,40 +135,36 @@ module _ (s : List ℕ) (at : ℕ) (w : Name) (b : get_or s at 0 ≡ 130) (z : g
       let q : tag_head (get_or s at 0) (get_or s (at + 1) 0) ≡ true = rw (b, z) in
       tag_was _ (tag_short s at q (omega arith) refl) refl
 
-  pub unit_other : ((i : ℕ) → Fits w8 (get_or s i 0)) → (f : Found) → Differs s (at + 2) w f → OtherVariant s at w f
+  pub unit_other : ((i : ℕ) → Fits w8 (get_or s i 0)) → (f : Maybe ℕ) → Differs s (at + 2) w f → OtherVariant s at w f
   unfolding Differs OtherVariant place_after
-  unit_other each (At end) d =
+  unit_other each (Some end) d =
       let p : Past s (at + 2) end = record { is = ended_after d.0; each = λ i. omega (arith, each i) } in
       record {
         of = λ x n r.
             let t : text_at s (at + 2) ≡ declared_name x = ap (text_at s) (sym (ap place_after unit_tag)) ∙ variant_text s at x n r in
             (ap (λ (y : Name). eq_name y w) (sym t) ∙ d.1, (unit_ends s (at + 2) (get_or s (at + 1) 0) p z).of x n (by_tag (constructor_variant_at s at x n r) unit_tag));
       }
-  unit_other each Nothing d = tt
-
-pub other_nowhere : (s : List ℕ) (at : ℕ) (w : Name) → OtherVariant s at w Nothing
-unfolding OtherVariant
-other_nowhere s at w = tt
+  unit_other each None d = tt
 
 -- any variant: the head says where the name stands, and the case whether there is more
-module _ (s : List ℕ) (at : ℕ) (w : Name) {a : Tagged} (h : a ≡ tagged_of (read_tag s at)) where
-  pub next_none : {f : Fault} {p : ℕ} → a ≡ tagged.Refused f p → NextVariant s at w Nothing
+module _ (s : List ℕ) (at : ℕ) (w : Name) {a : Result (Tag × Cursor) Refusal} (h : a ≡ answer (read_tag s at)) where
+  pub next_none : {f : Refusal} → a ≡ Err f → NextVariant s at w None
   unfolding NextVariant
   next_none q = λ x n r.
       let v = (constructor_variant_at s at x n r).tagged in
       let u = tag_out _ h q in
       no (cc)
 
-  module _ {t : Tag} {c : Cursor} (q : a ≡ tagged.Case t c) {text : Name} {b : Bool} (i : text ≡ text_at s c.at) (f : b ≡ eq_name text w) where
+  module _ {t : Tag} {c : Cursor} (q : a ≡ Ok (t, c)) {text : Name} {b : Bool} (i : text ≡ text_at s c.at) (f : b ≡ eq_name text w) where
     next_called : (x : ConstructorVariant) (n : ℕ) → read_constructor_variant s at ≡ ok x n → eq_name (declared_name x) w ≡ b
     unfolding place_after
     next_called x n r = sym (f ∙ ap (λ (y : Name). eq_name y w) (i ∙ ap (text_at s) (sym (ap place_after (tag_was _ h q))) ∙ variant_text s at x n r))
 
-    pub next_hit : b ≡ true → NextVariant s at w Nothing
+    pub next_hit : b ≡ true → NextVariant s at w None
     unfolding NextVariant
     next_hit y = λ x n r. next_called x n r ∙ y
 
-    pub next_miss : {end : ℕ} → b ≡ false → PastVariant s c.at t.case end → NextVariant s at w (At end)
+    pub next_miss : {end : ℕ} → b ≡ false → PastVariant s c.at t.case end → NextVariant s at w (Some end)
     unfolding NextVariant
     next_miss y p = record { of = λ x n r. (next_called x n r ∙ y, p.of x n (by_tag (constructor_variant_at s at x n r) (tag_was _ h q))) }
 
@@ -177,16 +173,16 @@ module _ (s : List ℕ) (at : ℕ) (w : Name) {e : Entries} (o : e ≡ opened (r
   variant_other : {k' : ℕ} → PastOther s k w k' → Seeking read_constructor_variant declared_name s w e.many e.first (left - 1) k'
   variant_other u = miss read_constructor_variant declared_name s at w o left k g z (λ x n r. sym (u.of x n r).0) refl λ x n r. (u.of x n r).1
 
-  pub variant_passed : {f : Found} {k' : ℕ} → OtherVariant s k w f → f ≡ At k' → Seeking read_constructor_variant declared_name s w e.many e.first (left - 1) k'
+  pub variant_passed : {f : Maybe ℕ} {k' : ℕ} → OtherVariant s k w f → f ≡ Some k' → Seeking read_constructor_variant declared_name s w e.many e.first (left - 1) k'
   unfolding OtherVariant
   variant_passed v q = variant_other (rw q at v)
 
-  module _ {f : Found} (v : NextVariant s k w f) where
-    pub variant_miss : {k' : ℕ} → f ≡ At k' → Seeking read_constructor_variant declared_name s w e.many e.first (left - 1) k'
+  module _ {f : Maybe ℕ} (v : NextVariant s k w f) where
+    pub variant_miss : {k' : ℕ} → f ≡ Some k' → Seeking read_constructor_variant declared_name s w e.many e.first (left - 1) k'
     unfolding NextVariant
     variant_miss q = variant_other (rw q at v)
 
-    pub variant_hit : f ≡ Nothing → FirstVariant s at w (At k)
+    pub variant_hit : f ≡ None → FirstVariant s at w (Some k)
     unfolding NextVariant
     variant_hit q =
         let u : (x : ConstructorVariant) (n : ℕ) → read_constructor_variant s k ≡ ok x n → eq_name (declared_name x) w ≡ true = rw q at v in

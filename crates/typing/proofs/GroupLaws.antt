@@ -1,4 +1,5 @@
 -- Tables of groups: what the table of a list of groups holds, and the search for the first of a name.
+use Rattle.std.specs.Prelude.{Option as Maybe, Some, None}
 use Prim.Native.Nat.{ℕ, zero, suc, ◌+◌, ◌*◌, ◌/◌, ◌<◌, ◌≤◌}
 use mathlib.Core.Path.{◌≡◌, refl, sym, ap, subst, ◌∙◌}
 use mathlib.Core.Bool.{Bool, true, false}
@@ -23,8 +24,6 @@ use Rattle.typing.specs.Causes.{first_of}
 use Rattle.typing.specs.Names.{eq_name, called, first_called}
 use Rattle.typing.specs.Table.{after_item, after_head, pairs_from, pairs_of, pairs_at}
 use Rattle.typing.specs.First.{group_name, GroupsAt, GroupFound, group_here, group_nothing, FirstVariants}
-use Rattle.typing.specs.declared.table.Found.{Found}
-use Rattle.typing.specs.declared.table.Found.TheVariants.{At, Nothing}
 use Rattle.typing.proofs.TableLaws.{pairs_length}
 use Rattle.typing.proofs.EnvLaws.{entry, after_is, fields_head}
 
@@ -41,11 +40,11 @@ drop_get (y ∷ xs) (suc i) x e = let q : suc (i + 1) ≡ suc i + 1 = omega arit
 
 -- what was found, from what the code learnt of it
 module _ {s : List ℕ} where
-  pub group_no : {f : Found} {o : Option ConstructorGroup} → GroupFound s f o → f ≡ Nothing → o ≡ none
+  pub group_no : {f : Maybe ℕ} {o : Option ConstructorGroup} → GroupFound s f o → f ≡ None → o ≡ none
   group_no group_nothing q = refl
   group_no (group_here e) q = no (cc)
 
-  pub group_yes : {f : Found} {o : Option ConstructorGroup} {k : ℕ} → GroupFound s f o → f ≡ At k → (g : ConstructorGroup) × (n : ℕ) × (list_of max_list read_constructor_variant s k ≡ ok g.variants n) × (o ≡ some g)
+  pub group_yes : {f : Maybe ℕ} {o : Option ConstructorGroup} {k : ℕ} → GroupFound s f o → f ≡ Some k → (g : ConstructorGroup) × (n : ℕ) × (list_of max_list read_constructor_variant s k ≡ ok g.variants n) × (o ≡ some g)
   group_yes group_nothing q = no (cc)
   group_yes {k = k} (group_here {k = j} e) q = let i : j ≡ k = cc in (_, _, ap (list_of max_list read_constructor_variant s) (sym i) ∙ e, refl)
 
@@ -58,12 +57,12 @@ module _ (s groups : List ℕ) (w : Name) where
   groups_start = record { of = λ gs g. refl }
 
   module _ (k : ℕ) (l : GroupsLeft k) {count : ℕ} (c : count ≡ length groups / 2) where
-    pub groups_done : count ≤ k → FirstVariants s groups w Nothing
+    pub groups_done : count ≤ k → FirstVariants s groups w None
     unfolding first_called
     groups_done h = record {
       of = λ gs g.
           let m = g.room in
-          subst (GroupFound s Nothing) (ap (first_called group_name w) (sym (drop_of_length-le gs {i = k} (omega arith))) ∙ l.of gs g) group_nothing;
+          subst (GroupFound s None) (ap (first_called group_name w) (sym (drop_of_length-le gs {i = k} (omega arith))) ∙ l.of gs g) group_nothing;
     }
 
     module _ {text : Name} {b : Bool} (h : k < count) (t : text ≡ text_at s (get_or groups (2 * k) 0)) (q : b ≡ eq_name text w) where
@@ -74,13 +73,13 @@ module _ (s groups : List ℕ) (w : Name) where
           ∙ ap (first_called group_name w) (drop_get gs k x e)
           ∙ ap (λ (y : Bool). first_of (pick y (some x) none) (first_called group_name w (drop (k + 1) gs))) (sym (q ∙ ap (λ (y : Name). eq_name y w) (t ∙ g.name_is k x e)))
 
-      pub groups_hit : b ≡ true → FirstVariants s groups w (At (get_or groups (2 * k + 1) 0))
+      pub groups_hit : b ≡ true → FirstVariants s groups w (Some (get_or groups (2 * k + 1) 0))
       unfolding first_of pick
       groups_hit z = record {
         of = λ gs g.
             let m = g.room in
             let x = get_some gs k (omega arith) in
-            subst (GroupFound s (At (get_or groups (2 * k + 1) 0))) (sym (here gs g x.0 x.1 ∙ ap (λ (y : Bool). first_of (pick y (some x.0) none) (first_called group_name w (drop (k + 1) gs))) z)) (group_here (g.variants_are k x.0 x.1).1);
+            subst (GroupFound s (Some (get_or groups (2 * k + 1) 0))) (sym (here gs g x.0 x.1 ∙ ap (λ (y : Bool). first_of (pick y (some x.0) none) (first_called group_name w (drop (k + 1) gs))) z)) (group_here (g.variants_are k x.0 x.1).1);
       }
 
       pub groups_miss : b ≡ false → GroupsLeft (k + 1)

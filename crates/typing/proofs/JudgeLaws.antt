@@ -1,4 +1,5 @@
 -- What each step of the judging of a formula gives, for whatever reads there.
+use Rattle.std.specs.Prelude.{Ok, Err}
 use Prim.Native.Nat.{ℕ, suc, ◌-◌, ◌<◌, ◌≤◌}
 use mathlib.Core.Path.{◌≡◌, refl, sym, ap, ◌∙◌}
 use mathlib.Core.Bool.{Bool, true, false}
@@ -14,16 +15,11 @@ use Rattle.reading.specs.Pattern.{PatternVariant, Pattern, read_pattern_field, r
 use Rattle.reading.specs.Pattern as pattern
 use Rattle.reading.specs.Formula.{Formula, read_formula}
 use Rattle.reading.specs.Formula as formula
-use Rattle.reading.specs.Link.{answer, tagged_of}
+use Rattle.reading.specs.Link.{answer}
 use Rattle.reading.specs.declared.cursor.Cursor.{Cursor}
-use Rattle.reading.specs.declared.fault.Fault.{Fault}
-use Rattle.reading.specs.declared.item.Answer.{Answer}
-use Rattle.reading.specs.declared.item.Answer.TheVariants.{Got, Refused}
 use Rattle.reading.specs.declared.item.Tag.{Tag}
-use Rattle.reading.specs.declared.item.Tagged.{Tagged}
-use Rattle.reading.specs.declared.item.Tagged.TheVariants as tagged
 use Rattle.reading.proofs.Rules.{no}
-use Rattle.reading.proofs.Answers.{num, out}
+use Rattle.reading.proofs.Answers.{got, out}
 use Rattle.reading.proofs.PatternLaws.{pattern_field_laws}
 use Rattle.reading.proofs.CaseViews.{formula_at}
 use Rattle.reading.proofs.ListViews.{option_at}
@@ -32,7 +28,7 @@ use Rattle.typing.specs.Causes.{first_of}
 use Rattle.typing.specs.Rules.{is_bool, must_bool}
 use Rattle.typing.specs.Env.{Env, given}
 use Rattle.typing.specs.Formulas.{fields_bind, variant_binds, check_pattern_group, bool_cause, type_formula}
-use Rattle.typing.specs.Means.{ty_of, cause_of, unfit_of}
+use Rattle.typing.specs.Means.{ty_of, cause_of, unfit_of, Fit, Typed}
 use Rattle.typing.specs.Tells.{Ends}
 use Rattle.typing.specs.Table.{after_head, Past}
 use Rattle.typing.specs.Typed.{Types}
@@ -46,18 +42,16 @@ use Rattle.typing.specs.declared.ty.Ty.{Ty}
 use Rattle.typing.specs.declared.cause.Cause.{Cause}
 use Rattle.typing.specs.declared.cause.Cause.TheVariants.{BindingInFormula, MustBeBool}
 use Rattle.typing.specs.declared.cause.What.TheVariants as what
-use Rattle.typing.specs.declared.cause.Typed.{Typed}
-use Rattle.typing.specs.declared.cause.Typed.TheVariants.{Is, Fails}
-use Rattle.typing.specs.declared.rules.Fit.{Fit}
-use Rattle.typing.specs.declared.rules.Fit.TheVariants.{Fine, Unfit}
 use Rattle.typing.proofs.TableLaws.{tag_out}
 use Rattle.typing.proofs.EnvLaws.{after_is}
 use Rattle.typing.proofs.EntryLaws.{Scanning, scan_done, scan_turn, scan_next}
 use Rattle.typing.proofs.PartLaws.{option_null, option_there, name_stands, pattern_variant}
 use Rattle.typing.proofs.TypeLaws.{is_typed, is_failed}
 use Rattle.typing.proofs.ShapeLaws.{Shape, input, output, expression, one, always, sometime, two, shape, formula_fields}
-
 -- a field of a pattern
+use Rattle.std.specs.Prelude.{Result}
+use Rattle.reading.specs.declared.fault.Refusal.{Refusal}
+
 module _ (s : List ℕ) (at : ℕ) {k : ℕ} {b : Bool} (h : k ≡ after_head s at) (e : b ≡ eqb (get_or s k 0) 246) where
   pub field_absent : b ≡ true → FieldBinds s at false
   unfolding given
@@ -109,26 +103,26 @@ module _ (s : List ℕ) (at : ℕ) {k m : ℕ} {b : Bool} (h : k ≡ after_head 
   group_test : (p : Pattern) (n : ℕ) → read_pattern s at ≡ ok p n → b ≡ variant_binds p.variant
   group_test p n g = e.of p.variant n (pattern_variant s at p n g h o)
 
-  pub group_binds : b ≡ true → ChecksGroup s at (Unfit BindingInFormula)
+  pub group_binds : b ≡ true → ChecksGroup s at (Err BindingInFormula)
   unfolding check_pattern_group unfit_of cause_of pick
   group_binds q = record { of = λ p n g. rw (sym (group_test p n g) ∙ q) }
 
-  pub group_fine : b ≡ false → ChecksGroup s at Fine
+  pub group_fine : b ≡ false → ChecksGroup s at (Ok tt)
   unfolding check_pattern_group unfit_of pick
   group_fine q = record { of = λ p n g. rw (sym (group_test p n g) ∙ q) }
 
 -- an expression that has to be a bool
 module _ (env : Env) (d : ℕ) (s : List ℕ) (at : ℕ) {t : Typed} (h : Types env d s at t) where
-  pub bool_fails : {c : Cause} → t ≡ Fails c → TypesBool env d s at (Unfit c)
+  pub bool_fails : {c : Cause} → t ≡ Err c → TypesBool env d s at (Err c)
   unfolding type_formula bool_cause unfit_of
   bool_fails q = record { of = λ e n g. rw (is_failed env d s at h e n g q) }
 
-  module _ {τ : Ty} {m : ℕ} {b : Bool} (q : t ≡ Is τ m) (f : b ≡ is_bool (ty_of s τ)) where
-    pub bool_fine : b ≡ true → TypesBool env d s at Fine
+  module _ {τ : Ty} {m : ℕ} {b : Bool} (q : t ≡ Ok (τ, m)) (f : b ≡ is_bool (ty_of s τ)) where
+    pub bool_fine : b ≡ true → TypesBool env d s at (Ok tt)
     unfolding type_formula bool_cause unfit_of must_bool pick
     bool_fine z = record { of = λ e n g. rw ((is_typed env d s at h e n g q).0, sym f ∙ z) }
 
-    pub bool_other : b ≡ false → TypesBool env d s at (Unfit (MustBeBool what.Formula τ))
+    pub bool_other : b ≡ false → TypesBool env d s at (Err (MustBeBool what.Formula τ))
     unfolding type_formula bool_cause unfit_of must_bool pick cause_of
     bool_other z = record { of = λ e n g. rw ((is_typed env d s at h e n g q).0, sym f ∙ z) }
 
@@ -164,7 +158,7 @@ module _ (env : Env) (d : ℕ) (s : List ℕ) (at : ℕ) (r : Fit) where
   unfolding read_formula
   formula_deep z = record { of = λ e n q. let w = rw z at q in no (cc) }
 
-  pub formula_no_tag : {a : Tagged} {f : Fault} {p : ℕ} → (d ≡ 0 → ⊥) → a ≡ tagged_of (read_tag s at) → a ≡ tagged.Refused f p → TypesFormula env d s at r
+  pub formula_no_tag : {a : Result (Tag × Cursor) Refusal} {f : Refusal} → (d ≡ 0 → ⊥) → a ≡ answer (read_tag s at) → a ≡ Err f → TypesFormula env d s at r
   formula_no_tag z e q = record {
     of = λ x n g.
         let k : d ≡ suc (d - 1) = omega arith in
@@ -174,8 +168,8 @@ module _ (env : Env) (d : ℕ) (s : List ℕ) (at : ℕ) (r : Fit) where
         no (cc);
   }
 
-module _ (env : Env) (d : ℕ) (s : List ℕ) (at : ℕ) {a : Tagged} {t : Tag} {c : Cursor} {q : Kind} (z : d ≡ 0 → ⊥) (e : a ≡ tagged_of (read_tag s at)) (w : a ≡ tagged.Case t c) (u : q ≡ kind_of t.case) where
-  pub formula_output : q ≡ Output → TypesFormula env d s at Fine
+module _ (env : Env) (d : ℕ) (s : List ℕ) (at : ℕ) {a : Result (Tag × Cursor) Refusal} {t : Tag} {c : Cursor} {q : Kind} (z : d ≡ 0 → ⊥) (e : a ≡ answer (read_tag s at)) (w : a ≡ Ok (t, c)) (u : q ≡ kind_of t.case) where
+  pub formula_output : q ≡ Output → TypesFormula env d s at (Ok tt)
   unfolding unfit_of
   formula_output v = record { of = λ f n g. let x = formula_fields d s at Output z e w u v f n g in sym (type_shape_lem env f ∙ ap (type_shape env) x) }
 
@@ -202,24 +196,24 @@ module _ (env : Env) (d : ℕ) (s : List ℕ) (at : ℕ) {a : Tagged} {t : Tag} 
     formula_two v h = record { of = λ f n g. let x = formula_fields d s at Two z e w u v f n g in h.of _ _ _ _ x.4 x.5 ∙ sym (type_shape_lem env f ∙ ap (type_shape env) x.3) }
 
 -- a bound and a formula, and two formulas
-module _ (env : Env) (d : ℕ) (s : List ℕ) (at : ℕ) {a : Answer} (e : a ≡ answer (read_number max_u64 s at)) where
-  pub bounded_none : (r : Fit) {f : Fault} {p : ℕ} → a ≡ Refused f p → TypesBounded env d s at r
+module _ (env : Env) (d : ℕ) (s : List ℕ) (at : ℕ) {a : Result (ℕ × Cursor) Refusal} (e : a ≡ answer (read_number max_u64 s at)) where
+  pub bounded_none : (r : Fit) {f : Refusal} → a ≡ Err f → TypesBounded env d s at r
   bounded_none r q = record { of = λ b k f n u v. no (let w = out _ e q in cc) }
 
-  pub bounded_goes : (r : Fit) {b : ℕ} {c : Cursor} → a ≡ Got b c → TypesFormula env d s c.at r → TypesBounded env d s at r
+  pub bounded_goes : (r : Fit) {b : ℕ} {c : Cursor} → a ≡ Ok (b, c) → TypesFormula env d s c.at r → TypesBounded env d s at r
   bounded_goes r {b} {c} q g = record {
     of = λ x k f n u v.
-        let w = num _ e q in
+        let w = got _ e q in
         let i : c.at ≡ k = cc in
         g.of f n (ap (read_formula d s) i ∙ v);
   }
 
 module _ (env : Env) (d : ℕ) (s : List ℕ) (at : ℕ) {x : Fit} (h : TypesFormula env d s at x) where
-  pub two_fails : {c : Cause} → x ≡ Unfit c → TypesTwo env d s at x
+  pub two_fails : {c : Cause} {r : Fit} → x ≡ Err c → r ≡ Err c → TypesTwo env d s at r
   unfolding first_of unfit_of
-  two_fails q = record { of = λ f k g n u v. rw (q, sym (h.of f k u) ∙ ap (unfit_of s) q) }
+  two_fails q e = record { of = λ f k g n u v. rw (e, sym (h.of f k u) ∙ ap (unfit_of s) q) }
 
-  pub two_goes : {y : Fit} {k : ℕ} → x ≡ Fine → Ends (read_formula d s at) k → TypesFormula env d s k y → TypesTwo env d s at y
+  pub two_goes : {y : Fit} {k : ℕ} → x ≡ Ok tt → Ends (read_formula d s at) k → TypesFormula env d s k y → TypesTwo env d s at y
   unfolding first_of unfit_of
   two_goes q w g = record { of = λ f k' g' n u v. rw (sym (h.of f k' u) ∙ ap (unfit_of s) q) (g.of g' n (ap (read_formula d s) (w.of f k' u) ∙ v)) }
 

@@ -3,7 +3,7 @@ use Prim.Native.Nat.{ℕ, zero, suc, ◌+◌, ◌-◌, ◌*◌, ◌/◌, ◌^◌
 use mathlib.Core.Path.{◌≡◌, refl, sym, ap, subst, ◌∙◌}
 use mathlib.Core.Logic.{◌≢◌}
 use mathlib.Core.Bool.{Bool, false}
-use mathlib.Core.List.{List, [], ◌∷◌}
+use mathlib.Core.List.{List, [], ◌∷◌, ◌++◌}
 use mathlib.Core.Option.{some}
 use native.Mathlib.Omega.{arith}
 use native.Mathlib.Nat.{mul-le-mul}
@@ -11,7 +11,7 @@ use native.Mathlib.Numerals.{add-one}
 use native.Mathlib.Decide.{ℕ_discrete}
 use lib.Dec.{ltb}
 use borrow.Author.Tests.{ltb-true, ltb-false}
-use lib.ListN.{length, drop, get_or, set, replicate, length-set, length-replicate, get_or-replicate, drop_of_length-le, length-drop}
+use lib.ListN.{length, drop, get_or, set, replicate, length-set, length-replicate, get_or-replicate, drop_of_length-le, length-drop, length-append, get_or-append}
 use lib.Seq.{drop-cons, get_or-set_same, get_or-set_other}
 use Rattle.reading.specs.Read.{pick}
 use Rattle.reading.specs.Text.{Name}
@@ -178,26 +178,12 @@ no_lanes s table links = cleared_lanes s table links (record {
   empty = λ h m. get_or-replicate {A = ℕ} 1025 h 0 0 (omega arith);
 })
 
--- lane by lane: those before h are empty
-abbrev pub Empty : List ℕ → ℕ → Type 0
-Empty heads h = (j : ℕ) → j < h → get_or heads j 0 ≡ 0
-
-pub empty_start : (heads : List ℕ) → Empty heads 0
-empty_start heads j l = absurd (omega arith)
-
-module _ (heads : List ℕ) (h : ℕ) (size : length heads ≡ 1025) (e : Empty heads h) where
-  pub empty_more : h < 1024 → Empty (set heads h 0) (h + 1)
-  empty_more m j l = at (ℕ_discrete j h)
-    where
-      at : Dec (j ≡ h) → get_or (set heads h 0) j 0 ≡ 0
-      at (yes q) = rw q (get_or-set_same heads h 0 0 (omega arith))
-      at (no d) = get_or-set_other heads h j 0 0 d ∙ e j (omega arith)
-
-  pub empty_all : (key : ℕ) → 1024 ≤ h → Cleared (set heads 1024 key)
-  empty_all key m = record {
-    size = length-set heads 1024 key ∙ size;
-    empty = λ j l. get_or-set_other heads 1024 j key 0 (λ (q : j ≡ 1024). omega arith) ∙ e j (omega arith);
-  }
+-- the lanes are filled with 0, and the key is put behind them
+pub cleared : (heads : List ℕ) (key : ℕ) (filled : List ℕ) → length heads ≡ 1025 → length filled ≡ 1024 → ((h : ℕ) → h < 1024 → get_or filled h 0 ≡ 0) → Cleared (set (filled ++ drop 1024 heads) 1024 key)
+cleared heads key filled l n z = record {
+  size = length-set (filled ++ drop 1024 heads) 1024 key ∙ simp (length-append, length-drop) (omega arith);
+  empty = λ h m. get_or-set_other (filled ++ drop 1024 heads) 1024 h key 0 (λ (q : h ≡ 1024). omega arith) ∙ get_or-append filled (drop 1024 heads) 0 h (omega arith) ∙ z h m;
+}
 
 module _ {s table table' : List ℕ} {k : ℕ} {heads links : List ℕ} where
   pub lanes_kept : Lanes s table k heads links → length table ≡ length table' → ((j : ℕ) → j < k → get_or table' (2 * j) 0 ≡ get_or table (2 * j) 0) → Lanes s table' k heads links

@@ -33,7 +33,7 @@ pub mod OutputLaws
 pub mod FillLaws
 pub mod EmitLaws
 pub mod ClashLaws
+pub mod Counts
 pub mod EqualityLaws
 pub mod SeenLaws
 pub mod GuardLaws
-pub mod NumberLaws

@@ -1,4 +1,5 @@
 -- What each step of a path's meaning gives, over whatever the code is given.
+use Rattle.std.specs.Prelude.{Option as Maybe, Some, None, Ok, Err}
 use Prim.Native.Nat.{ℕ, ◌+◌, ◌<◌, ◌≤◌}
 use mathlib.Core.Path.{◌≡◌, refl, sym, ap, subst, ◌∙◌}
 use mathlib.Core.Bool.{Bool, true, false}
@@ -9,22 +10,16 @@ use lib.ListN.{length, get_or}
 use borrow.Author.Tests.{lt-ltb, le-ltb}
 use Rattle.reading.specs.Read.{ok, pick, bind}
 use Rattle.reading.specs.Text.{Name}
-use Rattle.reading.specs.Limits.{max_u32, max_path}
-use Rattle.reading.specs.Item.{read_kind, read_number, read_count, read_tag}
+use Rattle.reading.specs.Limits.{max_path}
+use Rattle.reading.specs.Item.{read_kind, read_count}
 use Rattle.reading.specs.Text.{read_name}
 use Rattle.reading.specs.Expr.{read_path}
 use Rattle.reading.specs.Views.{Rest, ListAt}
-use Rattle.reading.specs.Link.{answer, tagged_of}
+use Rattle.reading.specs.Link.{answer}
 use Rattle.reading.specs.Skip.{text_at}
 use Rattle.reading.specs.declared.cursor.Cursor.{Cursor}
-use Rattle.reading.specs.declared.fault.Fault.{Fault}
-use Rattle.reading.specs.declared.item.Answer.{Answer}
-use Rattle.reading.specs.declared.item.Answer.TheVariants.{Got, Refused}
-use Rattle.reading.specs.declared.item.Tag.{Tag}
-use Rattle.reading.specs.declared.item.Tagged.{Tagged}
-use Rattle.reading.specs.declared.item.Tagged.TheVariants as tagged
 use Rattle.reading.proofs.Rules.{no}
-use Rattle.reading.proofs.Answers.{num, out}
+use Rattle.reading.proofs.Answers.{got, out}
 use Rattle.reading.proofs.HeadSound.{Bytes}
 use Rattle.reading.proofs.ExprLaws.{name_laws, path_laws}
 use Rattle.reading.proofs.ListViews.{list_at, rest_all, rest_none, turn}
@@ -34,41 +29,38 @@ use Rattle.typing.specs.Causes.{first_of}
 use Rattle.typing.specs.Names.{eq_name, state_word, state_enum}
 use Rattle.typing.specs.Env.{given, state_variants}
 use Rattle.typing.specs.Typing.{resolve_state, or_state, resolve_name, resolve_variant, resolve_path}
-use Rattle.typing.specs.Means.{good, ty_of, cause_of, typed_of, outcome}
+use Rattle.typing.specs.Means.{good, ty_of, cause_of, typed_of, outcome, Typed}
 use Rattle.typing.specs.Tells.{Ends}
-use Rattle.typing.specs.Table.{place_after, after_item, Past, found, width_type, expr_type_at, type_found}
+use Rattle.typing.specs.Table.{place_after, after_item, Past, found, expr_type_at, type_found}
 use Rattle.typing.specs.Segments.{variant_in, variant_held}
 use Rattle.typing.specs.Blocks.{find_in, enum_find, env_at}
 use Rattle.typing.specs.Typed.{Resolves}
 use Rattle.typing.specs.declared.ty.Ty.{Ty}
 use Rattle.typing.specs.declared.ty.Ty.TheVariants as ty
-use Rattle.typing.specs.declared.table.Found.{Found}
-use Rattle.typing.specs.declared.table.Found.TheVariants.{At, Nothing}
-use Rattle.typing.specs.declared.cause.Typed.{Typed}
-use Rattle.typing.specs.declared.cause.Typed.TheVariants.{Is, Fails}
 use Rattle.typing.specs.declared.cause.Cause.TheVariants.{UnknownIdentifier, UnknownEnum, UnknownVariant, PathLength, EmptyPath}
 use Rattle.typing.proofs.ShortLaws.{head_one}
-use Rattle.typing.proofs.TableLaws.{width_is, width_none, type_none, case_width, type_enum, type_bool, type_beyond}
 use Rattle.typing.proofs.EnvLaws.{after_is}
-
 -- what a search found
-pub found_at : (o : Option ℕ) {f : Found} {at : ℕ} → f ≡ found o → f ≡ At at → o ≡ some at
+use Rattle.std.specs.Prelude.{Result}
+use Rattle.reading.specs.declared.fault.Refusal.{Refusal}
+
+pub found_at : (o : Option ℕ) {f : Maybe ℕ} {at : ℕ} → f ≡ found o → f ≡ Some at → o ≡ some at
 unfolding found
 found_at (some a) e q = cc
 found_at none e q = no (cc)
 
-pub found_none : (o : Option ℕ) {f : Found} → f ≡ found o → f ≡ Nothing → o ≡ none
+pub found_none : (o : Option ℕ) {f : Maybe ℕ} → f ≡ found o → f ≡ None → o ≡ none
 unfolding found
 found_none (some a) e q = no (cc)
 found_none none e q = refl
 
 module _ (s enums : List ℕ) where
-  module _ (n : Name) {f : Found} (e : f ≡ found (enum_find s state_enum enums)) where
-    pub state_listed : {at : ℕ} {x : Bool} → f ≡ At at → x ≡ variant_in s enums n at → x ≡ state_variants (env_at s [] enums) n
+  module _ (n : Name) {f : Maybe ℕ} (e : f ≡ found (enum_find s state_enum enums)) where
+    pub state_listed : {at : ℕ} {x : Bool} → f ≡ Some at → x ≡ variant_in s enums n at → x ≡ state_variants (env_at s [] enums) n
     unfolding env_at variant_held
     state_listed q g = rw (found_at _ e q) g
 
-    pub state_unlisted : f ≡ Nothing → false ≡ state_variants (env_at s [] enums) n
+    pub state_unlisted : f ≡ None → false ≡ state_variants (env_at s [] enums) n
     unfolding env_at variant_held
     state_unlisted q = rw (found_none _ e q)
 
@@ -76,46 +68,13 @@ module _ (s enums : List ℕ) where
     state_test : state_variants (env_at s [] enums) (text_at s at) ≡ x
     state_test = rw (sym t) (sym e)
 
-    pub state_is : x ≡ true → typed_of s (Is ty.State next) ≡ outcome next (resolve_state (env_at s [] enums) (text_at s at))
+    pub state_is : x ≡ true → typed_of s (Ok (ty.State, next)) ≡ outcome next (resolve_state (env_at s [] enums) (text_at s at))
     unfolding resolve_state pick typed_of outcome ty_of
     state_is q = rw (state_test ∙ q)
 
-    pub state_unknown : x ≡ false → typed_of s (Fails (UnknownIdentifier at)) ≡ outcome next (resolve_state (env_at s [] enums) (text_at s at))
+    pub state_unknown : x ≡ false → typed_of s (Err (UnknownIdentifier at)) ≡ outcome next (resolve_state (env_at s [] enums) (text_at s at))
     unfolding resolve_state pick typed_of outcome cause_of
     state_unknown q = rw (state_test ∙ q)
-
--- a declared type, of an expression that ends at next
-module _ (s : List ℕ) (at next : ℕ) where
-  typed_as : (t : ExprType) (τ : Ty) → ty_of s τ ≡ t → typed_of s (Is τ next) ≡ good t next
-  unfolding typed_of
-  typed_as t τ h = ap (λ (z : ExprType). good z next) h
-
-  module _ {a : Answer} (e : a ≡ answer (read_number max_u32 s at)) where
-    pub typed_width_is : {w : ℕ} {c : Cursor} → a ≡ Got w c → typed_of s (Is (ty.Bit w) next) ≡ good (width_type (read_number max_u32 s at)) next
-    typed_width_is q = typed_as _ _ (width_is s at e q)
-
-    pub typed_width_none : {f : Fault} {p : ℕ} → a ≡ Refused f p → typed_of s (Is ty.Bool next) ≡ good (width_type (read_number max_u32 s at)) next
-    typed_width_none q = typed_as _ _ (width_none s at e q)
-
-  module _ {a : Tagged} (e : a ≡ tagged_of (read_tag s at)) where
-    abbrev Declared : Typed → Type 0
-    Declared r = typed_of s r ≡ good (expr_type_at s at) next
-
-    pub typed_none : {f : Fault} {p : ℕ} → a ≡ tagged.Refused f p → Declared (Is ty.Bool next)
-    typed_none q = typed_as _ _ (type_none s at e q)
-
-    module _ {t : Tag} {c : Cursor} (q : a ≡ tagged.Case t c) where
-      pub typed_width : (r : Typed) → t.case ≡ 1 → typed_of s r ≡ good (width_type (read_number max_u32 s c.at)) next → Declared r
-      typed_width r k g = g ∙ ap (λ (z : ExprType). good z next) (case_width s at e q k)
-
-      pub typed_enum : t.case ≡ 2 → Declared (Is (ty.Enum c.at) next)
-      typed_enum k = typed_as _ _ (type_enum s at e q k)
-
-      pub typed_bool : t.case ≡ 0 → Declared (Is ty.Bool next)
-      typed_bool k = typed_as _ _ (type_bool s at e q k)
-
-      pub typed_beyond : (t.case ≡ 1 → ⊥) → (t.case ≡ 2 → ⊥) → Declared (Is ty.Bool next)
-      typed_beyond h k = typed_as _ _ (type_beyond s at e q h k)
 
 -- a path of one name
 module _ (s names enums : List ℕ) (at next : ℕ) {x : Bool} {n : Name} (e : x ≡ eq_name n state_word) (t : n ≡ text_at s at) where
@@ -125,35 +84,35 @@ module _ (s names enums : List ℕ) (at next : ℕ) {x : Bool} {n : Name} (e : x
   state_word_lem : eq_name (text_at s at) state_word ≡ x
   state_word_lem = rw (sym t) (sym e)
 
-  pub name_state : x ≡ true → Named (Is ty.State next)
+  pub name_state : x ≡ true → Named (Ok (ty.State, next))
   unfolding resolve_name pick typed_of outcome ty_of
   name_state q = rw (state_word_lem ∙ q)
 
-  module _ (q : x ≡ false) {f : Found} (g : f ≡ found (find_in s n names)) where
+  module _ (q : x ≡ false) {f : Maybe ℕ} (g : f ≡ found (find_in s n names)) where
     search_is : f ≡ found (find_in s (text_at s at) names)
     search_is = rw t at g
 
-    pub name_found_lem : {under : ℕ} (r : Typed) → f ≡ At under → typed_of s r ≡ good (expr_type_at s under) next → Named r
-    unfolding resolve_name pick outcome env_at type_found first_of or_state
-    name_found_lem r h k = rw (state_word_lem ∙ q, found_at _ search_is h) k
+    pub name_found_lem : {under : ℕ} (τ : Ty) → f ≡ Some under → ty_of s τ ≡ expr_type_at s under → Named (Ok (τ, next))
+    unfolding resolve_name pick outcome env_at type_found first_of or_state typed_of
+    name_found_lem τ h k = rw (state_word_lem ∙ q, found_at _ search_is h) (ap (λ (z : ExprType). good z next) k)
 
-    pub name_other : (r : Typed) → f ≡ Nothing → typed_of s r ≡ outcome next (resolve_state (env_at s [] enums) (text_at s at)) → Named r
+    pub name_other : (r : Typed) → f ≡ None → typed_of s r ≡ outcome next (resolve_state (env_at s [] enums) (text_at s at)) → Named r
     unfolding resolve_name pick env_at type_found first_of or_state resolve_state
     name_other r h k = rw (state_word_lem ∙ q, found_none _ search_is h) k
 
 -- a longer path
-module _ (s enums : List ℕ) (at m next : ℕ) {f : Found} {n : Name} (g : f ≡ found (enum_find s n enums)) (t : n ≡ text_at s at) where
+module _ (s enums : List ℕ) (at m next : ℕ) {f : Maybe ℕ} {n : Name} (g : f ≡ found (enum_find s n enums)) (t : n ≡ text_at s at) where
   abbrev Longer : Typed → Type 0
   Longer r = typed_of s r ≡ outcome next (resolve_variant (env_at s [] enums) (text_at s at) (text_at s (after_item s at)) m)
 
   enum_found : f ≡ found (enum_find s (text_at s at) enums)
   enum_found = rw t at g
 
-  pub enum_unknown : f ≡ Nothing → Longer (Fails (UnknownEnum at))
+  pub enum_unknown : f ≡ None → Longer (Err (UnknownEnum at))
   unfolding resolve_variant pick env_at given typed_of outcome cause_of
   enum_unknown q = rw (found_none _ enum_found q)
 
-  module _ {list v : ℕ} {w : Name} {x : Bool} (q : f ≡ At list) (h : v ≡ after_item s at) (u : w ≡ text_at s v) (k : x ≡ variant_in s enums w list) where
+  module _ {list v : ℕ} {w : Name} {x : Bool} (q : f ≡ Some list) (h : v ≡ after_item s at) (u : w ≡ text_at s v) (k : x ≡ variant_in s enums w list) where
     variant_test : variant_held s enums (text_at s (after_item s at)) (enum_find s (text_at s at) enums) ≡ x
     unfolding variant_held
     variant_test = rw (found_at _ enum_found q, sym h, sym u) (sym k)
@@ -162,24 +121,24 @@ module _ (s enums : List ℕ) (at m next : ℕ) {f : Found} {n : Name} (g : f �
     unfolding given
     enum_known = rw (found_at _ enum_found q)
 
-    pub variant_long : x ≡ true → 2 < m → Longer (Fails (PathLength m))
+    pub variant_long : x ≡ true → 2 < m → Longer (Err (PathLength m))
     unfolding resolve_variant pick env_at typed_of outcome cause_of
     variant_long a b = rw (enum_known, variant_test ∙ a, lt-ltb 2 m b)
 
-    pub variant_is : x ≡ true → m ≤ 2 → Longer (Is (ty.Enum at) next)
+    pub variant_is : x ≡ true → m ≤ 2 → Longer (Ok (ty.Enum at, next))
     unfolding resolve_variant pick env_at typed_of outcome ty_of
     variant_is a b = rw (enum_known, variant_test ∙ a, le-ltb 2 m b)
 
-    pub variant_unknown : x ≡ false → Longer (Fails (UnknownVariant v at))
+    pub variant_unknown : x ≡ false → Longer (Err (UnknownVariant v at))
     unfolding resolve_variant pick env_at typed_of outcome cause_of
     variant_unknown a = rw (enum_known, variant_test ∙ a, h)
 
 -- the path that stands at a place
-module _ (s names enums : List ℕ) (at next : ℕ) {a : Answer} (e : a ≡ answer (read_count max_path s at)) where
+module _ (s names enums : List ℕ) (at next : ℕ) {a : Result (ℕ × Cursor) Refusal} (e : a ≡ answer (read_count max_path s at)) where
   abbrev Resolved : Typed → List Name → Type 0
   Resolved r p = typed_of s r ≡ outcome next (resolve_path (env_at s names enums) p)
 
-  pub path_none : (r : Typed) {f : Fault} {p : ℕ} → a ≡ Refused f p → Resolves (env_at s names enums) s at next r
+  pub path_none : (r : Typed) {f : Refusal} → a ≡ Err f → Resolves (env_at s names enums) s at next r
   unfolding read_path
   path_none r q = record { of = λ p n g. let l = list_at read_name s max_path at p n g in no (let x = out _ e q in let y = l.opens in cc) }
 
@@ -188,22 +147,22 @@ module _ (s names enums : List ℕ) (at next : ℕ) {a : Answer} (e : a ≡ answ
     pub many : length p ≡ m
     pub all : Rest read_name s k 0 p n
 
-  segments : {m : ℕ} {c : Cursor} → a ≡ Got m c → (p : List Name) (n : ℕ) → read_path s at ≡ ok p n → Segments c.at m p n
+  segments : {m : ℕ} {c : Cursor} → a ≡ Ok (m, c) → (p : List Name) (n : ℕ) → read_path s at ≡ ok p n → Segments c.at m p n
   unfolding read_path
   segments {m} {c} q p n g =
       let l = list_at read_name s max_path at p n g in
-      let x = num _ e q in
+      let x = got _ e q in
       let y = l.opens in
       let u : length p ≡ m = cc in
       let v : l.first ≡ c.at = cc in
       record { many = u; all = subst (λ (z : ℕ). Rest read_name s z 0 p n) v (rest_all read_name s l) }
 
-  module _ {m : ℕ} {c : Cursor} (q : a ≡ Got m c) where
-    pub path_empty : m ≡ 0 → Resolves (env_at s names enums) s at next (Fails EmptyPath)
+  module _ {m : ℕ} {c : Cursor} (q : a ≡ Ok (m, c)) where
+    pub path_empty : m ≡ 0 → Resolves (env_at s names enums) s at next (Err EmptyPath)
     unfolding resolve_path typed_of outcome cause_of
     path_empty z = record { of = λ p n g. go p ((segments q p n g).many ∙ z) }
       where
-        go : (p : List Name) → length p ≡ 0 → Resolved (Fails EmptyPath) p
+        go : (p : List Name) → length p ≡ 0 → Resolved (Err EmptyPath) p
         go [] h = refl
         go (x ∷ xs) h = absurd (omega arith)
 

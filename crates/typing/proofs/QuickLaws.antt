@@ -1,7 +1,8 @@
 -- What the numbers of types tell of the rules.
+use Rattle.std.specs.Prelude.{Ok}
 use Prim.Native.Nat.{ℕ, ◌+◌, ◌-◌, ◌<◌, ◌≤◌}
 use mathlib.Core.Path.{◌≡◌, refl, sym, ap, ◌∙◌}
-use mathlib.Core.Bool.{Bool, true, false}
+use mathlib.Core.Bool.{Bool, true}
 use mathlib.Core.List.{List}
 use mathlib.Core.Logic.{◌⊎◌, inl, inr}
 use mathlib.Core.Option.{none}
@@ -9,17 +10,12 @@ use native.Mathlib.Omega.{arith}
 use lib.Dec.{eqb}
 use borrow.Author.Tests.{eq-eqb, eqb-true}
 use Rattle.reading.specs.Read.{pick}
-use Rattle.reading.proofs.Rules.{no}
 use Rattle.typing.specs.Types.{ExprType, bool, bit, int_lit, enum}
 use Rattle.typing.specs.Causes.{is, unless}
 use Rattle.typing.specs.Rules.{is_bool, must_bool, bits_of, bit_pair, bit_op_type, same_type, literal_with_bits, compatible_with, compare_type, logic_type, bin_op, binary_type}
-use Rattle.typing.specs.Means.{ty_of, typed_of, outcome, unfit_of}
+use Rattle.typing.specs.Means.{ty_of, typed_of, outcome, unfit_of, Typed}
 use Rattle.typing.specs.Quick.{code_of, Alike, Makes, Surely}
-use Rattle.typing.specs.declared.ty.Ty.{Ty}
 use Rattle.typing.specs.declared.ty.Ty.TheVariants as ty
-use Rattle.typing.specs.declared.rules.Fit.TheVariants.{Fine}
-use Rattle.typing.specs.declared.cause.Typed.{Typed}
-use Rattle.typing.specs.declared.cause.Typed.TheVariants.{Is}
 use Rattle.typing.proofs.RuleLaws.{op_bits, op_compare, op_logic}
 
 -- a type by its number
@@ -44,20 +40,6 @@ code_bits (bit v) w e = let q : v ≡ w = omega arith in ap bit q
 code_bits int_lit w e = absurd (omega arith)
 code_bits (enum n) w e = absurd (omega arith)
 
-pub code_bit : (s : List ℕ) (t : Ty) {w : ℕ} → t ≡ ty.Bit w → w + 3 ≡ code_of (ty_of s t)
-unfolding code_of ty_of
-code_bit s t z = rw z
-
--- alike
-pub alike_not : (a b : ℕ) → Alike a b false
-alike_not a b = record { wide = λ e. no (cc); same = λ e. no (cc) }
-
-pub alike_literal : (a b : ℕ) → 3 ≤ a → b ≡ 1 → Alike a b true
-alike_literal a b h e = record { wide = λ q. h; same = λ q. inl e }
-
-pub alike_same : (a b : ℕ) → 3 ≤ a → Alike a b (eqb a b)
-alike_same a b h = record { wide = λ q. h; same = λ q. inr (eqb-true a b q) }
-
 -- a bitvector's type with the same or with a literal
 bits_compare : (v : ℕ) (y : ExprType) → (code_of y ≡ 1) ⊎ (code_of y ≡ v + 3) → compare_type (bit v) y ≡ is bool
 unfolding compare_type compatible_with literal_with_bits bits_of same_type pick unless
@@ -70,9 +52,6 @@ bits_sum v y (inl e) = rw (code_literal y e)
 bits_sum v y (inr e) = rw (code_bits y v e, eq-eqb v v refl)
 
 module _ (op a b : ℕ) where
-  pub makes_unknown : Makes op a b 2
-  makes_unknown = record { of = λ x y t p q c d. absurd (d refl); few = λ h. absurd (omega arith) }
-
   pub makes_logic : 13 < op → a ≡ 0 → b ≡ 0 → Makes op a b 0
   unfolding logic_type must_bool is_bool pick unless
   makes_logic h i j = record {
@@ -108,11 +87,11 @@ module _ (s : List ℕ) (next op : ℕ) (x y : ExprType) {a b k : ℕ} (i : a �
   abbrev Made : Typed → Type 0
   Made r = typed_of s r ≡ outcome next (binary_type (bin_op op) x y)
 
-  pub quick_bool : k ≡ 0 → Made (Is ty.Bool next)
+  pub quick_bool : k ≡ 0 → Made (Ok (ty.Bool, next))
   unfolding typed_of outcome ty_of code_of
   quick_bool h = rw (g.of x y bool (sym i) (sym j) (sym h) (omega arith))
 
-  pub quick_bits : 2 < k → Made (Is (ty.Bit (k - 3)) next)
+  pub quick_bits : 2 < k → Made (Ok ((ty.Bit (k - 3)), next))
   unfolding typed_of outcome ty_of code_of
   quick_bits h = rw (g.of x y (bit (k - 3)) (sym i) (sym j) (omega arith) (omega arith))
 
@@ -125,12 +104,9 @@ same_code int_lit y e d = rw (code_literal y (sym e))
 same_code (enum n) y e d = absurd (d refl)
 
 module _ (x y : ExprType) where
-  pub surely_not : Surely x y false
-  surely_not = record { of = λ e. no (cc) }
-
   pub surely_same : {a b : ℕ} → a ≡ code_of x → (a ≡ 2 → ⊥) → b ≡ code_of y → Surely x y (eqb a b)
   surely_same {a} {b} i d j = record { of = λ e. same_code x y (sym i ∙ eqb-true a b e ∙ j) (λ q. d (i ∙ q)) }
 
-pub surely_fine : (s : List ℕ) (x y : ExprType) {r : Bool} → Surely x y r → r ≡ true → unfit_of s Fine ≡ compatible_with x y
+pub surely_fine : (s : List ℕ) (x y : ExprType) {r : Bool} → Surely x y r → r ≡ true → unfit_of s (Ok tt) ≡ compatible_with x y
 unfolding unfit_of
 surely_fine s x y g e = sym (g.of e)

@@ -1,4 +1,5 @@
 -- Rolls: each has the items that were put, and so a search from the first item of a name's print on passes no item of the name.
+use Rattle.std.specs.Prelude.{Some, None}
 use Prim.Native.Nat.{ℕ, zero, suc, ◌+◌, ◌-◌, ◌*◌, ◌/◌, ◌%◌, ◌^◌, ◌<◌, ◌≤◌}
 use mathlib.Core.Path.{◌≡◌, refl, sym, ap, subst, ◌∙◌}
 use mathlib.Core.Bool.{Bool, true, false}
@@ -25,7 +26,6 @@ use Rattle.typing.specs.Segments.{after_items}
 use Rattle.typing.specs.Entries.{opened}
 use Rattle.typing.specs.Rolls.{name_at, many_in, key_on, item_in, index_in, print_of, roll_lane, StartsOn, Rolled, number_from, FindsOn, WithinTable, PutsItems, PutsHints, PutsKeyed, PutsRoll}
 use Rattle.typing.specs.declared.entries.Entries.{Entries}
-use Rattle.typing.specs.declared.table.Found.TheVariants.{At, Nothing}
 use Rattle.typing.proofs.NameLaws.{eq_name_eq}
 use Rattle.typing.proofs.BlockLaws.{word_kept}
 use Rattle.typing.proofs.SegmentLaws.{front}
@@ -199,11 +199,11 @@ module _ (tagged : Bool) (s : List ℕ) (list : ℕ) (T : List ℕ) (q : ℕ) wh
       }
 
 -- what was found stands in the table
-pub within_none : (T : List ℕ) (q : ℕ) → WithinTable T q Nothing
+pub within_none : (T : List ℕ) (q : ℕ) → WithinTable T q None
 unfolding WithinTable
 within_none T q = tt
 
-pub within_at : (T : List ℕ) (q i : ℕ) → q + 1 + i < length T → WithinTable T q (At i)
+pub within_at : (T : List ℕ) (q i : ℕ) → q + 1 + i < length T → WithinTable T q (Some i)
 unfolding WithinTable
 within_at T q i h = h
 
@@ -236,17 +236,17 @@ module _ (tagged : Bool) (s : List ℕ) (x : Name) where
     pub record Left (i : ℕ) : Type 0 where
       pub of : (first n : ℕ) → Rolled tagged s T q first n → from first n i ≡ number_from n tagged s first x 0
 
-    pub find_out : length T ≤ q → FindsOn tagged s x T q Nothing
+    pub find_out : length T ≤ q → FindsOn tagged s x T q None
     find_out h = record { of = λ first n r. let m = r.room in absurd (omega arith) }
 
-    pub find_empty : many_in T q ≡ 0 → FindsOn tagged s x T q Nothing
+    pub find_empty : many_in T q ≡ 0 → FindsOn tagged s x T q None
     unfolding number_from found
     find_empty e = record { of = λ first n r. rw (sym r.many ∙ e) }
 
-    pub find_wide : (length T - q - 1) / 2 < many_in T q → FindsOn tagged s x T q Nothing
+    pub find_wide : (length T - q - 1) / 2 < many_in T q → FindsOn tagged s x T q None
     find_wide h = record { of = λ first n r. let m = r.room in let e = r.many in absurd (omega arith) }
 
-    pub left_done : (i : ℕ) → Left i → many_in T q ≤ i → FindsOn tagged s x T q Nothing
+    pub left_done : (i : ℕ) → Left i → many_in T q ≤ i → FindsOn tagged s x T q None
     unfolding found
     left_done i g h = record { of = λ first n r. let e = r.many in ap found (sym (from_done first n i (omega arith)) ∙ g.of first n r) }
 
@@ -280,7 +280,7 @@ module _ (tagged : Bool) (s : List ℕ) (x : Name) where
         pub left_miss : b ≡ false → Left (i + 1)
         left_miss z = left_past (λ first n r l. sym (same_name first n r l) ∙ z)
 
-        pub left_hit : b ≡ true → FindsOn tagged s x T q (At i)
+        pub left_hit : b ≡ true → FindsOn tagged s x T q (Some i)
         unfolding found pick
         left_hit z = record {
           of = λ first n r.

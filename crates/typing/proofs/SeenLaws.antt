@@ -1,4 +1,5 @@
 -- The search for a clash over the equalities alone, and what each step of the one pass leaves of it.
+use Rattle.std.specs.Prelude.{Option as Maybe, Some, None, Ok, Err}
 use Prim.Native.Nat.{ℕ, zero, suc, ◌+◌, ◌-◌, ◌*◌, ◌<◌}
 use mathlib.Core.Path.{◌≡◌, refl, sym, ap, ◌∙◌}
 use mathlib.Core.Bool.{Bool, true, false}
@@ -21,15 +22,12 @@ use Rattle.typing.specs.Tells.{Ends}
 use Rattle.typing.specs.Table.{find_first, found}
 use Rattle.typing.specs.Lanes.{Lanes}
 use Rattle.typing.specs.Equalities.{name_in, listed, equalities, equalities_of, equality_of, ConjunctAt}
-use Rattle.typing.specs.Seen.{placed, seen_in, clashing, Room, Adds, Kept, Leaves, NotesEquality, NotesConjuncts, NotesTwo, Answers, OnePass}
-use Rattle.typing.specs.declared.table.Found.{Found}
-use Rattle.typing.specs.declared.table.Found.TheVariants as lookup
+use Rattle.typing.specs.Seen.{Seen, placed, seen_in, clashing, Room, Adds, Kept, Leaves, NotesEquality, NotesConjuncts, NotesTwo, Answers, OnePass}
 use Rattle.typing.specs.declared.equality.Equality.{Equality}
-use Rattle.typing.specs.declared.equality.Equality.TheVariants.{Nothing, Is}
 use Rattle.typing.specs.declared.equality.Conjunct.{Conjunct}
 use Rattle.typing.specs.declared.equality.Conjunct.TheVariants.{And, One}
-use Rattle.typing.specs.declared.seen.Seen.{Seen}
-use Rattle.typing.specs.declared.seen.Seen.TheVariants.{Many, Clash, Full}
+use Rattle.typing.specs.declared.seen.Stop.{Stop}
+use Rattle.typing.specs.declared.seen.Stop.TheVariants.{Clash, Full}
 use Rattle.typing.proofs.EqualityLaws.{deep_enough, was_and, was_one}
 use Rattle.typing.proofs.LaneLaws.{put, words_kept, pair_laned, pair_name, pair_value}
 
@@ -61,11 +59,11 @@ find_seen s w table (suc k) = rw (find_seen s w table k) (go (eq_name (text_at s
     go true = refl
     go false = refl
 
-module _ (s : List ℕ) (w : Name) (table : List ℕ) (k : ℕ) {f : Found} (e : f ≡ found (find_first s w table k)) where
+module _ (s : List ℕ) (w : Name) (table : List ℕ) (k : ℕ) {f : Maybe ℕ} (e : f ≡ found (find_first s w table k)) where
   found_value : f ≡ found (value_of (first_called name_in w (seen_in s table k)))
   found_value = e ∙ ap found (find_seen s w table k)
 
-  not_seen : f ≡ lookup.Nothing → first_called name_in w (seen_in s table k) ≡ none
+  not_seen : f ≡ None → first_called name_in w (seen_in s table k) ≡ none
   unfolding value_of found
   not_seen q = go (first_called name_in w (seen_in s table k)) found_value
     where
@@ -73,13 +71,13 @@ module _ (s : List ℕ) (w : Name) (table : List ℕ) (k : ℕ) {f : Found} (e :
       go none u = refl
       go (some x) u = no (cc)
 
-  was_seen : {v : ℕ} → f ≡ lookup.At v → (x : guards.Equality) × (first_called name_in w (seen_in s table k) ≡ some x) × (x.value ≡ v)
+  was_seen : {v : ℕ} → f ≡ Some v → (x : guards.Equality) × (first_called name_in w (seen_in s table k) ≡ some x) × (x.value ≡ v)
   unfolding value_of found
   was_seen {v} q = go (first_called name_in w (seen_in s table k)) refl found_value
     where
       go : (o : Option guards.Equality) → first_called name_in w (seen_in s table k) ≡ o → f ≡ found (value_of o) → (x : guards.Equality) × (first_called name_in w (seen_in s table k) ≡ some x) × (x.value ≡ v)
       go none i u = no (cc)
-      go (some x) i u = (x, i, let y : lookup.At x.value ≡ lookup.At v = cc in cc)
+      go (some x) i u = (x, i, let y : (Some x.value) ≡ Some v = cc in cc)
 
 -- pair k, put after the others
 seen_kept : (s table table' : List ℕ) (k : ℕ) → ((j : ℕ) → j < 2 * k → get_or table' j 0 ≡ get_or table j 0) → seen_in s table' k ≡ seen_in s table k
@@ -96,56 +94,57 @@ pair_added {s} {table} {k} r low n v l z = record {
 }
 
 -- an equality against those in the table
-module _ (s : List ℕ) {q : Equality} (table : List ℕ) (k : ℕ) where
-  pub note_nothing : {heads links : List ℕ} → q ≡ Nothing → Room s table k heads links → NotesEquality s q table k (Many k) table heads links
+module _ (s : List ℕ) {q : Maybe Equality} (table : List ℕ) (k : ℕ) where
+  pub note_nothing : {heads links : List ℕ} → q ≡ None → Room s table k heads links → NotesEquality s q table k (Ok k) table heads links
   unfolding Kept Leaves listed equality_of
   note_nothing e r = record { kept = r; leaves = rw e (λ rest. refl) }
 
-  module _ {n v : ℕ} {w : Name} {f : Found} (e : q ≡ Is n v) (t : w ≡ text_at s n) (h : f ≡ found (find_first s w table k)) where
-    judged : {o : Option guards.Equality} → first_called name_in w (seen_in s table k) ≡ o → (rest : List guards.Equality) → clashing (seen_in s table k) (listed (equality_of s q) ++ rest) ≡ against (λ now. clashing now rest) (seen_in s table k) (placed s n v) o
+  module _ {p : Equality} {w : Name} {f : Maybe ℕ} (e : q ≡ Some p) (t : w ≡ text_at s p.name) (h : f ≡ found (find_first s w table k)) where
+    judged : {o : Option guards.Equality} → first_called name_in w (seen_in s table k) ≡ o → (rest : List guards.Equality) → clashing (seen_in s table k) (listed (equality_of s q) ++ rest) ≡ against (λ now. clashing now rest) (seen_in s table k) (placed s p.name p.value) o
     unfolding clashing listed equality_of
     judged z rest = rw (e, sym t, z)
 
-    pub note_same : {a : ℕ} {heads links : List ℕ} → f ≡ lookup.At a → a ≡ v → Room s table k heads links → NotesEquality s q table k (Many k) table heads links
+    pub note_same : {a : ℕ} {heads links : List ℕ} → f ≡ Some a → a ≡ p.value → Room s table k heads links → NotesEquality s q table k (Ok k) table heads links
     unfolding Kept Leaves against pick
     note_same z i r = record {
       kept = r;
-      leaves = λ rest. let y = was_seen s w table k h z in judged y.1 rest ∙ rw (eq-eqb y.0.value v (y.2 ∙ i));
+      leaves = λ rest. let y = was_seen s w table k h z in judged y.1 rest ∙ rw (eq-eqb y.0.value p.value (y.2 ∙ i));
     }
 
-    pub note_clash : {a : ℕ} (heads links : List ℕ) → f ≡ lookup.At a → (a ≡ v → ⊥) → NotesEquality s q table k (Clash n a v) table heads links
+    pub note_clash : {a : ℕ} (heads links : List ℕ) → f ≡ Some a → (a ≡ p.value → ⊥) → NotesEquality s q table k (Err (Clash (record { name = p.name; earlier = a; later = p.value }))) table heads links
     unfolding Kept Leaves against pick
     note_clash {a} heads links z i = record {
       kept = tt;
-      leaves = λ rest. let y = was_seen s w table k h z in judged y.1 rest ∙ rw (y.2, ne_eqb a v i);
+      leaves = λ rest. let y = was_seen s w table k h z in judged y.1 rest ∙ rw (y.2, ne_eqb a p.value i);
     }
 
-    pub note_new : {table' heads links : List ℕ} → f ≡ lookup.Nothing → Adds s n v table k table' heads links → NotesEquality s q table k (Many (k + 1)) table' heads links
+    pub note_new : {table' heads links : List ℕ} → f ≡ None → Adds s p.name p.value table k table' heads links → NotesEquality s q table k (Ok (k + 1)) table' heads links
     unfolding Kept Leaves against
     note_new z a = record {
       kept = a.room;
       leaves = λ rest. judged (not_seen s w table k h z) rest ∙ ap (λ (l : List guards.Equality). clashing l rest) (sym a.seen);
     }
 
-  pub note_full : (table' heads links : List ℕ) → NotesEquality s q table k Full table' heads links
+  pub note_full : (table' heads links : List ℕ) → NotesEquality s q table k (Err Full) table' heads links
   unfolding Kept Leaves
   note_full table' heads links = record { kept = tt; leaves = tt }
 
 -- one list of equalities after another
 module _ (s : List ℕ) (seen es fs : List guards.Equality) (table : List ℕ) where
-  then_leaves : (m : ℕ) (table' : List ℕ) (r : Seen) → Leaves s seen es (Many m) table → Leaves s (seen_in s table m) fs r table' → Leaves s seen (es ++ fs) r table'
+  then_leaves : (m : ℕ) (table' : List ℕ) (r : Seen) → Leaves s seen es (Ok m) table → Leaves s (seen_in s table m) fs r table' → Leaves s seen (es ++ fs) r table'
   unfolding Leaves
-  then_leaves m table' (Many k) f g = λ rest. rw append_assoc (f (fs ++ rest) ∙ g rest)
-  then_leaves m table' (Clash n a b) f g = λ rest. rw append_assoc (f (fs ++ rest) ∙ g rest)
-  then_leaves m table' Full f g = tt
+  then_leaves m table' (Ok k) f g = λ rest. rw append_assoc (f (fs ++ rest) ∙ g rest)
+  then_leaves m table' (Err (Clash c)) f g = λ rest. rw append_assoc (f (fs ++ rest) ∙ g rest)
+  then_leaves m table' (Err Full) f g = tt
 
-  stop_leaves : (n a b : ℕ) → Leaves s seen es (Clash n a b) table → Leaves s seen (es ++ fs) (Clash n a b) table
+  stop_leaves : (e : Stop) → Leaves s seen es (Err e) table → Leaves s seen (es ++ fs) (Err e) table
   unfolding Leaves
-  stop_leaves n a b f = λ rest. rw append_assoc (f (fs ++ rest))
+  stop_leaves (Clash c) f = λ rest. rw append_assoc (f (fs ++ rest))
+  stop_leaves Full f = tt
 
 -- an expression, by what it says
 module _ (d : ℕ) (s : List ℕ) (at : ℕ) (table : List ℕ) (k : ℕ) where
-  pub notes_deep : {heads links : List ℕ} → d ≡ 0 → Room s table k heads links → NotesConjuncts d s at table k (Many k) table heads links
+  pub notes_deep : {heads links : List ℕ} → d ≡ 0 → Room s table k heads links → NotesConjuncts d s at table k (Ok k) table heads links
   unfolding Kept
   notes_deep z r = record { kept = r; of = λ x n u. absurd (deep_enough d s at x n u z) }
 
@@ -158,11 +157,11 @@ module _ (d : ℕ) (s : List ℕ) (at : ℕ) (table : List ℕ) (k : ℕ) where
           rw v.6 (f.of v.0 v.1 v.2 v.3 v.4 v.5);
     }
 
-    pub notes_one : {q : Equality} → c ≡ One q → NotesEquality s q table k r table' heads links → NotesConjuncts d s at table k r table' heads links
+    pub notes_one : {q : Maybe Equality} → c ≡ One q → NotesEquality s q table k r table' heads links → NotesConjuncts d s at table k r table' heads links
     notes_one q f = record { kept = f.kept; of = λ x n u. rw (was_one (h.of x n u) q) f.leaves }
 
 -- two of them: right goes first
-pub kept_room : {d : ℕ} {s : List ℕ} {at : ℕ} {table : List ℕ} {k : ℕ} {r : Seen} {table' heads links : List ℕ} {m : ℕ} → NotesConjuncts d s at table k r table' heads links → r ≡ Many m → Room s table' m heads links
+pub kept_room : {d : ℕ} {s : List ℕ} {at : ℕ} {table : List ℕ} {k : ℕ} {r : Seen} {table' heads links : List ℕ} {m : ℕ} → NotesConjuncts d s at table k r table' heads links → r ≡ Ok m → Room s table' m heads links
 unfolding Kept
 kept_room f q = rw q at f.kept
 
@@ -170,21 +169,18 @@ module _ (d : ℕ) (s : List ℕ) (at : ℕ) (table : List ℕ) (k : ℕ) {right
   right_leaves : (a : Expr) (j : ℕ) (b : Expr) (n : ℕ) → read_expr d s at ≡ ok a j → read_expr d s j ≡ ok b n → Leaves s (seen_in s table k) (equalities_of b) x table₁
   right_leaves a j b n u v = f.of b n (ap (read_expr d s) (h.of a j u) ∙ v)
 
-  pub notes_left : {m : ℕ} (r : Seen) {table₂ heads₂ links₂ : List ℕ} → x ≡ Many m → NotesConjuncts d s at table₁ m r table₂ heads₂ links₂ → NotesTwo d s at table k r table₂ heads₂ links₂
+  pub notes_left : {m : ℕ} (r : Seen) {table₂ heads₂ links₂ : List ℕ} → x ≡ Ok m → NotesConjuncts d s at table₁ m r table₂ heads₂ links₂ → NotesTwo d s at table k r table₂ heads₂ links₂
   notes_left {m} r {table₂} q g = record {
     kept = g.kept;
     of = λ a j b n u v. then_leaves s (seen_in s table k) (equalities_of b) (equalities_of a) table₁ m table₂ r (rw q at (right_leaves a j b n u v)) (g.of a j u);
   }
 
-  pub notes_stop : {n a b : ℕ} → x ≡ Clash n a b → NotesTwo d s at table k x table₁ heads₁ links₁
-  notes_stop {n} {a} {b} q = record {
-    kept = f.kept;
-    of = λ y j z i u v. rw q (stop_leaves s (seen_in s table k) (equalities_of z) (equalities_of y) table₁ n a b (rw q at (right_leaves y j z i u v)));
+  pub notes_stop : {e : Stop} {r : Seen} → x ≡ Err e → r ≡ Err e → NotesTwo d s at table k r table₁ heads₁ links₁
+  unfolding Kept
+  notes_stop {e} q g = record {
+    kept = rw g tt;
+    of = λ y j z i u v. rw g (stop_leaves s (seen_in s table k) (equalities_of z) (equalities_of y) table₁ e (rw q at (right_leaves y j z i u v)));
   }
-
-  pub notes_full : x ≡ Full → NotesTwo d s at table k x table₁ heads₁ links₁
-  unfolding Leaves
-  notes_full q = record { kept = f.kept; of = λ a j b n u v. rw q tt }
 
 -- the whole guard, from a table of no pairs
 pub pass_done : (d : ℕ) (s : List ℕ) (at : ℕ) (r : Seen) {table table' heads links : List ℕ} → NotesConjuncts d s at table 0 r table' heads links → OnePass d s at r
@@ -192,6 +188,6 @@ unfolding Leaves Answers seen_in clashing
 pass_done d s at r {table} {table'} f = record { of = λ e n g. go e r (f.of e n g) }
   where
     go : (e : Expr) (r : Seen) → Leaves s (seen_in s table 0) (equalities_of e) r table' → Answers s (contradictory_equalities e) r
-    go e (Many m) h = contradictory_clashing e ∙ h []
-    go e (Clash n a b) h = contradictory_clashing e ∙ h []
-    go e Full h = tt
+    go e (Ok m) h = contradictory_clashing e ∙ h []
+    go e (Err (Clash c)) h = contradictory_clashing e ∙ h []
+    go e (Err Full) h = tt

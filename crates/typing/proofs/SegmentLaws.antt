@@ -1,4 +1,5 @@
 -- Segments: a word has the names whose marks it was made of, a segment's words those of its list, and so has the word under an enum's name.
+use Rattle.std.specs.Prelude.{Option as Maybe, Some, None}
 use Prim.Native.Nat.{ℕ, zero, suc, ◌+◌, ◌-◌, ◌*◌, ◌/◌, ◌%◌, ◌^◌, ◌<◌, ◌≤◌}
 use mathlib.Core.Path.{◌≡◌, refl, sym, ap, ◌∙◌}
 use mathlib.Core.Bool.{Bool, true, false}
@@ -28,8 +29,6 @@ use Rattle.typing.specs.Blocks.{BlockWoven, block_find, KeepsEnums, Weaves}
 use Rattle.typing.specs.Entries.{opened}
 use Rattle.typing.specs.declared.entries.Entries.{Entries}
 use Rattle.typing.specs.declared.segments.Packed.{Packed}
-use Rattle.typing.specs.declared.table.Found.{Found}
-use Rattle.typing.specs.declared.table.Found.TheVariants.{At, Nothing}
 use Rattle.typing.proofs.NameLaws.{eq_name_eq}
 use Rattle.typing.proofs.TableLaws.{names_open, given_pick}
 use Rattle.typing.proofs.LaneLaws.{woven_kept}
@@ -306,7 +305,7 @@ module _ {s : List ℕ} {first many : ℕ} {T : List ℕ} {q key : ℕ} {r : Boo
   pub fills_then : {key' : ℕ} {r' : Bool} {T'' : List ℕ} → FillsWords key' s first many T' q r' T'' → FillsWords key' s first many T q r' T''
   fills_then h = record { size = h.size ∙ g.size; kept = h.kept ∙ g.kept; has = h.has }
 
-  pub keyed_none : FillsKeyed s first many T q Nothing T'
+  pub keyed_none : FillsKeyed s first many T q None T'
   unfolding FillsKeyed
   keyed_none = (g.size, g.kept)
 
@@ -317,7 +316,7 @@ module _ {s : List ℕ} {first many : ℕ} {T : List ℕ} {q key : ℕ} {r : Boo
     pub fills_still : FillsWords key s first many T' q true T'
     fills_still = record { size = refl; kept = refl; has = λ z. g.has e }
 
-    pub keyed_at : key < 8 → FillsKeyed s first many T q (At key) T'
+    pub keyed_at : key < 8 → FillsKeyed s first many T q (Some key) T'
     unfolding FillsKeyed
     keyed_at l = (l, fills_all)
 
@@ -333,14 +332,14 @@ module _ (s T : List ℕ) (q : ℕ) where
   pub segment_empty : (list : ℕ) → q ≤ length T → Segmented s list T q 0 T
   segment_empty list h = segment_none list h refl refl
 
-  module _ (e : Entries) (f : Found) (T' : List ℕ) (g : FillsKeyed s e.first e.many T (q + 1) f T') where
-    pub segment_stops : (list : ℕ) → f ≡ Nothing → q ≤ length T → Segmented s list T q 0 T'
+  module _ (e : Entries) (f : Maybe ℕ) (T' : List ℕ) (g : FillsKeyed s e.first e.many T (q + 1) f T') where
+    pub segment_stops : (list : ℕ) → f ≡ None → q ≤ length T → Segmented s list T q 0 T'
     unfolding FillsKeyed
     segment_stops list z h =
         let k : (length T' ≡ length T) × (take (q + 1) T' ≡ take (q + 1) T) = rw z at g in
         segment_none list h k.0 (front T T' q (q + 1) (omega arith) k.1)
 
-    module _ {key : ℕ} (z : f ≡ At key) where
+    module _ {key : ℕ} (z : f ≡ Some key) where
       by_key : (key < 8) × FillsWords key s e.first e.many T (q + 1) true T'
       unfolding FillsKeyed
       by_key = rw z at g

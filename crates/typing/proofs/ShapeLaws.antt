@@ -2,9 +2,8 @@
 use Prim.Native.Nat.{ℕ, suc, ◌-◌, ◌<◌, ◌≤◌}
 use mathlib.Core.Path.{◌≡◌, refl, sym, ap, subst, ◌∙◌}
 use mathlib.Core.Bool.{Bool, true, false}
-use mathlib.Core.List.{List, [], ◌∷◌}
+use mathlib.Core.List.{List}
 use native.Mathlib.Omega.{arith}
-use lib.ListN.{get_or-eq_default}
 use borrow.Author.Tests.{lt-ltb, le-ltb}
 use Rattle.reading.specs.Read.{ok, pick}
 use Rattle.reading.specs.Limits.{max_u64}
@@ -13,17 +12,12 @@ use Rattle.reading.specs.Expr.{Expr, read_expr}
 use Rattle.reading.specs.Pattern.{Pattern, read_pattern}
 use Rattle.reading.specs.Formula.{Formula, read_formula}
 use Rattle.reading.specs.Formula as formula
-use Rattle.reading.specs.Link.{answer, tagged_of}
+use Rattle.reading.specs.Link.{answer}
 use Rattle.reading.specs.Views.{FormulaAt, input_formula, output_formula, expr_formula, not_formula, and_formula, or_formula, implies_formula, next_formula, always_formula, bounded_always_formula, bounded_eventually_formula, eventually_formula, until_formula}
 use Rattle.reading.specs.declared.cursor.Cursor.{Cursor}
-use Rattle.reading.specs.declared.fault.Fault.{Fault}
-use Rattle.reading.specs.declared.item.Answer.{Answer}
-use Rattle.reading.specs.declared.item.Answer.TheVariants.{Got, Refused}
 use Rattle.reading.specs.declared.item.Tag.{Tag}
-use Rattle.reading.specs.declared.item.Tagged.{Tagged}
-use Rattle.reading.specs.declared.item.Tagged.TheVariants as tagged
 use Rattle.reading.proofs.Rules.{no}
-use Rattle.reading.proofs.Answers.{num, out}
+use Rattle.reading.proofs.Answers.{got, out}
 use Rattle.reading.proofs.FormulaLaws.{formula_laws}
 use Rattle.reading.proofs.CaseViews.{formula_at, by_tag}
 use Rattle.reading.proofs.Walks.{passed}
@@ -34,12 +28,12 @@ use Rattle.typing.specs.Shape.{kind_of, Bounds, BoundsAlways, BoundsSometime, Bo
 use Rattle.typing.specs.declared.formula.Kind.{Kind}
 use Rattle.typing.specs.declared.formula.Kind.TheVariants.{Input, Output, Expression, One, Always, Sometime, Two, Unknown}
 use Rattle.typing.proofs.TableLaws.{tag_was, tag_out}
-
-pub kind_beyond : (k : ℕ) → 13 ≤ k → Unknown ≡ kind_of k
-unfolding kind_of
-kind_beyond k h = sym (get_or-eq_default (Input ∷ Output ∷ Expression ∷ One ∷ Two ∷ Two ∷ Two ∷ One ∷ One ∷ Always ∷ Sometime ∷ One ∷ Two ∷ []) Unknown {n = k} h)
-
 -- a formula ends where the item does
+use Rattle.std.specs.Prelude.{Result}
+use Rattle.std.specs.Prelude.{Ok}
+use Rattle.std.specs.Prelude.{Err}
+use Rattle.reading.specs.declared.fault.Refusal.{Refusal}
+
 pub formula_ends : (d : ℕ) (s : List ℕ) (at : ℕ) {r : ℕ} → Past s at r → Ends (read_formula d s at) r
 unfolding place_after
 formula_ends d s at e = record { of = λ x n q. e.is ∙ ap place_after (passed (formula_laws d) s e.each at x n q) }
@@ -98,7 +92,7 @@ module _ (d : ℕ) (s : List ℕ) (m : ℕ) where
   fields_of_lem (until_formula q r) = (_, _, _, refl, q, r)
 
 -- the fields of the case that stands there
-pub formula_fields : (d : ℕ) (s : List ℕ) (at : ℕ) {a : Tagged} {t : Tag} {c : Cursor} {q : Kind} (q' : Kind) → (d ≡ 0 → ⊥) → a ≡ tagged_of (read_tag s at) → a ≡ tagged.Case t c → q ≡ kind_of t.case → q ≡ q' → (f : Formula) (n : ℕ) → read_formula d s at ≡ ok f n → Fields (d - 1) s c.at q' (shape f) n
+pub formula_fields : (d : ℕ) (s : List ℕ) (at : ℕ) {a : Result (Tag × Cursor) Refusal} {t : Tag} {c : Cursor} {q : Kind} (q' : Kind) → (d ≡ 0 → ⊥) → a ≡ answer (read_tag s at) → a ≡ Ok (t, c) → q ≡ kind_of t.case → q ≡ q' → (f : Formula) (n : ℕ) → read_formula d s at ≡ ok f n → Fields (d - 1) s c.at q' (shape f) n
 formula_fields d s at {t = t} {c = c} q' z e w u v f n g =
     let k : d ≡ suc (d - 1) = omega arith in
     subst (λ (x : Kind). Fields (d - 1) s c.at x (shape f) n) (sym u ∙ v) (fields_of_lem (d - 1) s c.at (by_tag (formula_at (d - 1) s at f n (ap (λ (i : ℕ). read_formula i s at) (sym k) ∙ g)) (tag_was _ e w)))
@@ -134,7 +128,7 @@ module _ (d : ℕ) (s : List ℕ) (at : ℕ) (r : Bool) where
   unfolding read_formula
   bounds_deep z = record { of = λ e n q. let w = rw z at q in no (cc) }
 
-  pub bounds_no_tag : {a : Tagged} {f : Fault} {p : ℕ} → (d ≡ 0 → ⊥) → a ≡ tagged_of (read_tag s at) → a ≡ tagged.Refused f p → Bounds d s at r
+  pub bounds_no_tag : {a : Result (Tag × Cursor) Refusal} {f : Refusal} → (d ≡ 0 → ⊥) → a ≡ answer (read_tag s at) → a ≡ Err f → Bounds d s at r
   bounds_no_tag z e q = record {
     of = λ x n g.
         let k : d ≡ suc (d - 1) = omega arith in
@@ -144,7 +138,7 @@ module _ (d : ℕ) (s : List ℕ) (at : ℕ) (r : Bool) where
         no (cc);
   }
 
-module _ (d : ℕ) (s : List ℕ) (at : ℕ) {a : Tagged} {t : Tag} {c : Cursor} {q : Kind} (z : d ≡ 0 → ⊥) (e : a ≡ tagged_of (read_tag s at)) (w : a ≡ tagged.Case t c) (u : q ≡ kind_of t.case) where
+module _ (d : ℕ) (s : List ℕ) (at : ℕ) {a : Result (Tag × Cursor) Refusal} {t : Tag} {c : Cursor} {q : Kind} (z : d ≡ 0 → ⊥) (e : a ≡ answer (read_tag s at)) (w : a ≡ Ok (t, c)) (u : q ≡ kind_of t.case) where
   pub bounds_input : q ≡ Input → Bounds d s at false
   bounds_input v = record { of = λ f n g. let x = formula_fields d s at Input z e w u v f n g in sym (bound_shape_lem f ∙ ap bound_shape x.1) }
 
@@ -171,23 +165,23 @@ module _ (d : ℕ) (s : List ℕ) (at : ℕ) {a : Tagged} {t : Tag} {c : Cursor}
     bounds_two v h = record { of = λ f n g. let x = formula_fields d s at Two z e w u v f n g in h.of _ _ _ _ x.4 x.5 ∙ sym (bound_shape_lem f ∙ ap bound_shape x.3) }
 
 -- always[N], eventually[N] and two formulas, by their fields
-module _ (d : ℕ) (s : List ℕ) (at : ℕ) {a : Answer} (e : a ≡ answer (read_number max_u64 s at)) where
-  pub always_none : (r : Bool) {f : Fault} {p : ℕ} → a ≡ Refused f p → BoundsAlways d s at r
+module _ (d : ℕ) (s : List ℕ) (at : ℕ) {a : Result (ℕ × Cursor) Refusal} (e : a ≡ answer (read_number max_u64 s at)) where
+  pub always_none : (r : Bool) {f : Refusal} → a ≡ Err f → BoundsAlways d s at r
   always_none r q = record { of = λ b k f n u v. no (let w = out _ e q in cc) }
 
-  pub sometime_none : (r : Bool) {f : Fault} {p : ℕ} → a ≡ Refused f p → BoundsSometime d s at r
+  pub sometime_none : (r : Bool) {f : Refusal} → a ≡ Err f → BoundsSometime d s at r
   sometime_none r q = record { of = λ b k f n u v. no (let w = out _ e q in cc) }
 
-  module _ {b : ℕ} {c : Cursor} (q : a ≡ Got b c) where
+  module _ {b : ℕ} {c : Cursor} (q : a ≡ Ok (b, c)) where
     pub always_zero : b < 1 → BoundsAlways d s at true
     unfolding bounded_always_error pick
-    always_zero h = record { of = λ x k f n u v. let w = num _ e q in let y : b ≡ x = cc in rw (sym y, lt-ltb b 1 h) }
+    always_zero h = record { of = λ x k f n u v. let w = got _ e q in let y : b ≡ x = cc in rw (sym y, lt-ltb b 1 h) }
 
     pub always_more : (r : Bool) → 1 ≤ b → Bounds d s c.at r → BoundsAlways d s at r
     unfolding bounded_always_error pick
     always_more r h g = record {
       of = λ x k f n u v.
-          let w = num _ e q in
+          let w = got _ e q in
           let y : b ≡ x = cc in
           let i : c.at ≡ k = cc in
           rw (sym y, le-ltb b 1 h) (g.of f n (ap (read_formula d s) i ∙ v));
@@ -196,7 +190,7 @@ module _ (d : ℕ) (s : List ℕ) (at : ℕ) {a : Answer} (e : a ≡ answer (rea
     pub sometime_goes : (r : Bool) → Bounds d s c.at r → BoundsSometime d s at r
     sometime_goes r g = record {
       of = λ x k f n u v.
-          let w = num _ e q in
+          let w = got _ e q in
           let i : c.at ≡ k = cc in
           g.of f n (ap (read_formula d s) i ∙ v);
     }

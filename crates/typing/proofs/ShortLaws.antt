@@ -1,4 +1,5 @@
 -- Short items: what their first byte says of the place after them.
+use Rattle.std.specs.Prelude.{Option, Some, None}
 use Prim.Native.Nat.{ℕ, suc, ◌+◌, ◌-◌, ◌/◌, ◌%◌, ◌<◌, ◌≤◌}
 use mathlib.Core.Path.{◌≡◌, refl, sym, ap, subst, ◌∙◌}
 use mathlib.Core.List.{List}
@@ -9,7 +10,8 @@ use mir.Syntax.{w8}
 use mir.Val.{Fits}
 use borrow.Author.Tests.{lt-ltb, le-ltb, lt-leb, eq-eqb, ne_eqb}
 use Rattle.reading.specs.Read.{ok, pick}
-use Rattle.reading.specs.Head.{Hd, read_head, head_with, simple}
+use Rattle.reading.specs.Head.{read_head, head_with, simple}
+use Rattle.reading.specs.declared.cursor.Head.{Head}
 use Rattle.reading.specs.Text.{Name}
 use Rattle.reading.specs.Skip.{text_at}
 use Rattle.reading.specs.Items.{inside, payload, Items, none, more}
@@ -17,8 +19,6 @@ use Rattle.reading.proofs.Rules.{pick_true, pick_false}
 use Rattle.reading.proofs.Short.{by_range}
 use Rattle.reading.proofs.Skips.{items_passed, span_one}
 use Rattle.typing.specs.Table.{place_after, after_item, Past, Ended, Stops, Differs}
-use Rattle.typing.specs.declared.table.Found.{Found}
-use Rattle.typing.specs.declared.table.Found.TheVariants.{At, Nothing}
 use Rattle.typing.proofs.NameLaws.{eq_name_length, eq_name_byte}
 
 module _ (s : List ℕ) (at : ℕ) (h : at < length s) where
@@ -38,15 +38,15 @@ module _ (s : List ℕ) (at : ℕ) (h : at < length s) where
       rw (lt-leb (length s) at h, pick_false, i, le-ltb 27 (get_or s at 0 % 32) j, pick_false, eq-eqb 7 7 refl, pick_true, le-ltb (get_or s at 0 % 32) 20 u, pick_false, le-ltb 22 (get_or s at 0 % 32) v, pick_false)
 
   -- the first of so many items, with what it holds after it
-  item_opens : (k : ℕ) (x : Hd) {n : ℕ} → read_head s at ≡ ok x (at + 1) → payload x ≡ 0 → Items s (k + inside x) (at + 1) n → Items s (suc k) at n
+  item_opens : (k : ℕ) (x : Head) {n : ℕ} → read_head s at ≡ ok x (at + 1) → payload x ≡ 0 → Items s (k + inside x) (at + 1) n → Items s (suc k) at n
   item_opens k x {n} e p g = let w : at + 1 ≡ at + 1 + payload x = omega arith in more x (at + 1) e (subst (λ (z : ℕ). Items s (k + inside x) z n) w g)
 
   -- with nothing after the head but so many bytes
-  one_item : (x : Hd) → read_head s at ≡ ok x (at + 1) → inside x ≡ 0 → at + 1 + payload x ≤ length s → Ended s at (at + 1 + payload x)
+  one_item : (x : Head) → read_head s at ≡ ok x (at + 1) → inside x ≡ 0 → at + 1 + payload x ≤ length s → Ended s at (at + 1 + payload x)
   one_item x e i l = record { item = more {k = 0} {n = at + 1 + payload x} x (at + 1) e (rw i none); room = l }
 
   -- by the byte
-  byte_item : (x : Hd) → read_head s at ≡ ok x (at + 1) → inside x ≡ 0 → payload x ≡ 0 → Ended s at (at + 1)
+  byte_item : (x : Head) → read_head s at ≡ ok x (at + 1) → inside x ≡ 0 → payload x ≡ 0 → Ended s at (at + 1)
   byte_item x e i p =
       let w : at + 1 + payload x ≡ at + 1 = omega arith in
       subst (Ended s at) w (one_item x e i (omega arith))
@@ -55,19 +55,19 @@ module _ (s : List ℕ) (at : ℕ) (h : at < length s) where
   unfolding inside payload pick
   ends_number l = byte_item _ (head_one 0 (get_or s at 0) (omega arith) (omega arith) (omega arith) l) refl refl
 
-  pub stops_number : get_or s at 0 < 24 → Stops s at (At (at + 1))
+  pub stops_number : get_or s at 0 < 24 → Stops s at (Some (at + 1))
   unfolding Stops
   stops_number = ends_number
 
-  pub stops_empty : get_or s at 0 ≡ 128 → Stops s at (At (at + 1))
+  pub stops_empty : get_or s at 0 ≡ 128 → Stops s at (Some (at + 1))
   unfolding Stops inside payload pick
   stops_empty l = byte_item _ (head_one 4 0 (omega arith) (omega arith) (omega arith) (omega arith)) refl refl
 
-  pub stops_simple : 243 < get_or s at 0 → get_or s at 0 < 247 → Stops s at (At (at + 1))
+  pub stops_simple : 243 < get_or s at 0 → get_or s at 0 < 247 → Stops s at (Some (at + 1))
   unfolding Stops inside payload pick
   stops_simple l m = byte_item _ (head_simple l m) refl refl
 
-  pub stops_name : 96 < get_or s at 0 → get_or s at 0 < 120 → get_or s at 0 - 96 < length s - at → Stops s at (At (at + 1 + (get_or s at 0 - 96)))
+  pub stops_name : 96 < get_or s at 0 → get_or s at 0 < 120 → get_or s at 0 - 96 < length s - at → Stops s at (Some (at + 1 + (get_or s at 0 - 96)))
   unfolding Stops inside payload pick
   stops_name l m o = one_item _ (head_one 3 (get_or s at 0 - 96) (omega arith) (omega arith) (omega arith) (omega arith)) refl (omega arith)
 
@@ -92,25 +92,17 @@ module _ (s : List ℕ) (at : ℕ) (h : at < length s) (l : 96 < get_or s at 0) 
   short_last = rw short_text (last_of s at (get_or s at 0 - 96) (omega arith))
 
   module _ (w : Name) where
-    pub differs_length : (get_or s at 0 - 96 ≡ length w → ⊥) → Differs s at w (At (at + 1 + (get_or s at 0 - 96)))
+    pub differs_length : (get_or s at 0 - 96 ≡ length w → ⊥) → Differs s at w (Some (at + 1 + (get_or s at 0 - 96)))
     unfolding Stops Differs
     differs_length n = (stops_name s at h l m o, eq_name_length _ w λ e. n (sym short_length ∙ e))
 
-    pub differs_last : (get_or s (at + (get_or s at 0 - 96)) 0 ≡ get_or w (get_or s at 0 - 96 - 1) 0 → ⊥) → Differs s at w (At (at + 1 + (get_or s at 0 - 96)))
+    pub differs_last : (get_or s (at + (get_or s at 0 - 96)) 0 ≡ get_or w (get_or s at 0 - 96 - 1) 0 → ⊥) → Differs s at w (Some (at + 1 + (get_or s at 0 - 96)))
     unfolding Stops Differs
     differs_last n = (stops_name s at h l m o, eq_name_byte _ w _ λ e. n (sym short_last ∙ e))
 
-pub differs_nowhere : (s : List ℕ) (at : ℕ) (w : Name) → Differs s at w Nothing
-unfolding Differs
-differs_nowhere s at w = tt
-
-pub stops_nowhere : (s : List ℕ) (at : ℕ) → Stops s at Nothing
-unfolding Stops
-stops_nowhere s at = tt
-
 -- a case alone, and one with a short item
 module _ (s : List ℕ) (at : ℕ) (l : get_or s (at + 1) 0 < 24) (h : 2 < length s - at) where
-  pub stops_case : get_or s at 0 ≡ 129 → Stops s at (At (at + 2))
+  pub stops_case : get_or s at 0 ≡ 129 → Stops s at (Some (at + 2))
   unfolding Stops inside payload pick
   stops_case b =
       let e = ends_number s (at + 1) (omega arith) l in
@@ -118,19 +110,19 @@ module _ (s : List ℕ) (at : ℕ) (l : get_or s (at + 1) 0 < 24) (h : 2 < lengt
       let o = item_opens s at (omega arith) 0 _ (head_one s at (omega arith) 4 1 (omega arith) (omega arith) (omega arith) (omega arith)) refl e.item in
       subst (Ended s at) w (record { item = o; room = e.room })
 
-  pub stops_second : get_or s at 0 ≡ 130 → (f : Found) → Stops s (at + 2) f → Stops s at f
+  pub stops_second : get_or s at 0 ≡ 130 → (f : Option ℕ) → Stops s (at + 2) f → Stops s at f
   unfolding Stops inside payload pick
-  stops_second b (At end) e =
+  stops_second b (Some end) e =
       let w : at + 2 ≡ at + 1 + 1 = omega arith in
       let i = item_opens s (at + 1) (omega arith) 1 _ (head_one s (at + 1) (omega arith) 0 (get_or s (at + 1) 0) (omega arith) (omega arith) (omega arith) l) refl (subst (λ (z : ℕ). Items s 1 z end) w e.item) in
       record { item = item_opens s at (omega arith) 0 _ (head_one s at (omega arith) 4 2 (omega arith) (omega arith) (omega arith) (omega arith)) refl i; room = e.room }
-  stops_second b Nothing e = tt
+  stops_second b None e = tt
 
 pub ended_after : {s : List ℕ} {at end : ℕ} → Ended s at end → end ≡ after_item s at
 unfolding place_after
 ended_after e = sym (ap place_after (items_passed e.item e.room))
 
-pub stops_past : (s : List ℕ) (at : ℕ) → ((i : ℕ) → Fits w8 (get_or s i 0)) → {f : Found} {end : ℕ} → Stops s at f → f ≡ At end → Past s at end
+pub stops_past : (s : List ℕ) (at : ℕ) → ((i : ℕ) → Fits w8 (get_or s i 0)) → {f : Option ℕ} {end : ℕ} → Stops s at f → f ≡ Some end → Past s at end
 unfolding Stops
 stops_past s at each {f} {end} g q =
     let e : Ended s at end = rw q at g in

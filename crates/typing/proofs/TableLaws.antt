@@ -1,4 +1,5 @@
 -- What the code's scans of tables and lists mean, over whatever they are given.
+use Rattle.std.specs.Prelude.{Option as Maybe, Some, None}
 use Prim.Native.Nat.{ℕ, zero, suc, ◌+◌, ◌-◌, ◌*◌, ◌<◌, ◌≤◌}
 use mathlib.Core.Path.{◌≡◌, refl, sym, ap, ◌∙◌}
 use mathlib.Core.Bool.{Bool, true, false}
@@ -14,18 +15,11 @@ use Rattle.reading.specs.Limits.{max_u32, max_list}
 use Rattle.reading.specs.Item.{read_number, read_count, read_tag}
 use Rattle.reading.specs.Text.{Name}
 use Rattle.reading.specs.Skip.{text_at}
-use Rattle.reading.specs.Link.{answer, tagged_of, stands}
+use Rattle.reading.specs.Link.{answer, stands}
 use Rattle.reading.specs.declared.cursor.Cursor.{Cursor}
-use Rattle.reading.specs.declared.fault.Fault.{Fault}
-use Rattle.reading.specs.declared.item.Answer.{Answer}
-use Rattle.reading.specs.declared.item.Answer.TheVariants.{Got, Refused}
 use Rattle.reading.specs.declared.item.Tag.{Tag}
-use Rattle.reading.specs.declared.item.Tagged.{Tagged}
-use Rattle.reading.specs.declared.item.Tagged.TheVariants as tagged
-use Rattle.reading.specs.declared.step.Step.{Step}
-use Rattle.reading.specs.declared.step.Step.TheVariants as step
 use Rattle.reading.proofs.Rules.{no}
-use Rattle.reading.proofs.Answers.{num, out}
+use Rattle.reading.proofs.Answers.{got, out}
 use Rattle.reading.proofs.ItemLaws.{number_kind}
 use Rattle.typing.specs.Names.{eq_name}
 use Rattle.typing.specs.Causes.{first_of}
@@ -36,40 +30,34 @@ use Rattle.typing.specs.Entries.{opened}
 use Rattle.typing.specs.declared.entries.Entries.{Entries}
 use Rattle.typing.specs.declared.ty.Ty.{Ty}
 use Rattle.typing.specs.declared.ty.Ty.TheVariants as ty
-use Rattle.typing.specs.declared.table.Found.{Found}
-use Rattle.typing.specs.declared.table.Found.TheVariants.{At, Nothing}
 use Rattle.typing.proofs.ShortLaws.{ended_after}
-
 -- what was read, from what the code learnt of its answer
-pub tag_was : (m : Read Tag) {r : Tagged} {t : Tag} {c : Cursor} → r ≡ tagged_of m → r ≡ tagged.Case t c → m ≡ ok t c.at
-unfolding tagged_of
-tag_was (ok a n) {r} {t} {c} e q =
-    let s : tagged.Case a (record { at = n }) ≡ tagged.Case t c = cc in
-    let u : record { at = n } ≡ c = cc in
-    let x : a ≡ t = cc in
-    λ i. ok (x i) (u i).at
-tag_was (refused f p) e q = no (cc)
+use Rattle.std.specs.Prelude.{Result}
+use Rattle.std.specs.Prelude.{Ok}
+use Rattle.std.specs.Prelude.{Err}
+use Rattle.reading.specs.declared.fault.Refusal.{Refusal}
 
-pub tag_out : (m : Read Tag) {r : Tagged} {f : Fault} {p : ℕ} → r ≡ tagged_of m → r ≡ tagged.Refused f p → m ≡ refused f p
-unfolding tagged_of
-tag_out (ok a n) e q = no (cc)
-tag_out (refused f p) e q = cc
+pub tag_was : (m : Read Tag) {r : Result (Tag × Cursor) Refusal} {t : Tag} {c : Cursor} → r ≡ answer m → r ≡ Ok (t, c) → m ≡ ok t c.at
+tag_was m e q = got m e q
+
+pub tag_out : (m : Read Tag) {r : Result (Tag × Cursor) Refusal} {f : Refusal} → r ≡ answer m → r ≡ Err f → m ≡ refused f.fault f.place
+tag_out m e q = out m e q
 
 -- the place after a data enum's head, and after an item
-pub tag_to : (m : Read Tag) {r : Tagged} {t : Tag} {c : Cursor} → r ≡ tagged_of m → r ≡ tagged.Case t c → c.at ≡ place_after m
+pub tag_to : (m : Read Tag) {r : Result (Tag × Cursor) Refusal} {t : Tag} {c : Cursor} → r ≡ answer m → r ≡ Ok (t, c) → c.at ≡ place_after m
 unfolding place_after
 tag_to m e q = rw (tag_was m e q)
 
-pub tag_away : (m : Read Tag) {r : Tagged} {f : Fault} {p : ℕ} → r ≡ tagged_of m → r ≡ tagged.Refused f p → p ≡ place_after m
+pub tag_away : (m : Read Tag) {r : Result (Tag × Cursor) Refusal} {f : Refusal} → r ≡ answer m → r ≡ Err f → f.place ≡ place_after m
 unfolding place_after
 tag_away m e q = rw (tag_out m e q)
 
-pub after_to : (m : Read (Unit {0})) {r : Step} {c : Cursor} → r ≡ stands m → r ≡ step.To c → c.at ≡ place_after m
+pub after_to : (m : Read (Unit {0})) {r : Result Cursor Refusal} {c : Cursor} → r ≡ stands m → r ≡ Ok c → c.at ≡ place_after m
 unfolding stands place_after
 after_to (ok a n) {r} {c} e q = let u : c ≡ record { at = n } = cc in ap (λ (z : Cursor). z.at) u
 after_to (refused f p) e q = no (cc)
 
-pub after_out : (m : Read (Unit {0})) {r : Step} {f : Fault} {p : ℕ} → r ≡ stands m → r ≡ step.Refused f p → p ≡ place_after m
+pub after_out : (m : Read (Unit {0})) {r : Result Cursor Refusal} {f : Refusal} → r ≡ stands m → r ≡ Err f → f.place ≡ place_after m
 unfolding stands place_after
 after_out (ok a n) e q = no (cc)
 after_out (refused f p) e q = cc
@@ -86,19 +74,19 @@ first_none none = refl
 first_none (some a) = refl
 
 -- of two, by the code's answer for the first
-pub first_hit : {f : Found} {place : ℕ} (y z : Option ℕ) → f ≡ found y → f ≡ At place → f ≡ found (first_of y z)
+pub first_hit : {f : Maybe ℕ} {place : ℕ} (y z : Option ℕ) → f ≡ found y → f ≡ Some place → f ≡ found (first_of y z)
 unfolding found first_of
 first_hit none z e q = no (cc)
 first_hit (some a) z e q = e
 
-pub first_miss : {f : Found} (y z : Option ℕ) → f ≡ found y → f ≡ Nothing → z ≡ first_of y z
+pub first_miss : {f : Maybe ℕ} (y z : Option ℕ) → f ≡ found y → f ≡ None → z ≡ first_of y z
 unfolding found first_of
 first_miss none z e q = refl
 first_miss (some a) z e q = no (cc)
 
 -- o stands under a name in the first i pairs of a table, from the last of them on
 module _ (s : List ℕ) (n : Name) (table : List ℕ) (i : ℕ) {o : Option ℕ} (r : find_first s n table i ≡ o) where
-  pub find_none : i ≤ 0 → Nothing ≡ found o
+  pub find_none : i ≤ 0 → None ≡ found o
   unfolding find_first found
   find_none h = let z : i ≡ 0 = omega arith in ap found (sym (ap (find_first s n table) z) ∙ r)
 
@@ -109,7 +97,7 @@ module _ (s : List ℕ) (n : Name) (table : List ℕ) (i : ℕ) {o : Option ℕ}
         let k : i ≡ suc (i - 1) = omega arith in
         sym r ∙ ap (find_first s n table) k ∙ rw (sym t, sym e)
 
-    pub find_hit : b ≡ true → At (get_or table (2 * (i - 1) + 1) 0) ≡ found o
+    pub find_hit : b ≡ true → (Some (get_or table (2 * (i - 1) + 1) 0)) ≡ found o
     unfolding found pick
     find_hit q = rw (last_pair, q)
 
@@ -125,12 +113,12 @@ find_kept s n table table' (suc k) h =
     rw (h (2 * k) (omega arith), h (2 * k + 1) (omega arith), find_kept s n table table' k (λ j i. h j (omega arith)))
 
 -- whether something stands under a name
-pub given_at : {f : Found} {k : ℕ} (o : Option ℕ) → f ≡ found o → f ≡ At k → true ≡ given o
+pub given_at : {f : Maybe ℕ} {k : ℕ} (o : Option ℕ) → f ≡ found o → f ≡ Some k → true ≡ given o
 unfolding given found
 given_at none e q = no (cc)
 given_at (some x) e q = refl
 
-pub given_not : {f : Found} (o : Option ℕ) → f ≡ found o → f ≡ Nothing → false ≡ given o
+pub given_not : {f : Maybe ℕ} (o : Option ℕ) → f ≡ found o → f ≡ None → false ≡ given o
 unfolding given found
 given_not none e q = refl
 given_not (some x) e q = no (cc)
@@ -171,7 +159,7 @@ module _ (s : List ℕ) (at : ℕ) (n : Name) where
       unfolding pick
       name_miss q g = rw (first_name, q, g)
 
-    pub name_passed : {o : Found} {m : ℕ} → 0 < left → Differs s k n o → o ≡ At m → member_from (left - 1) s m n ≡ member_at s at n
+    pub name_passed : {o : Maybe ℕ} {m : ℕ} → 0 < left → Differs s k n o → o ≡ Some m → member_from (left - 1) s m n ≡ member_at s at n
     unfolding Differs
     name_passed {o} {m} h d q =
         let u : Ended s k m × (eq_name (text_at s k) n ≡ false) = rw q at d in
@@ -179,24 +167,24 @@ module _ (s : List ℕ) (at : ℕ) (n : Name) where
 
 -- a declared type
 module _ (s : List ℕ) (at : ℕ) where
-  module _ {a : Answer} (e : a ≡ answer (read_number max_u32 s at)) where
-    pub width_small : {w : ℕ} {c : Cursor} → a ≡ Got w c → w ≤ max_u32
-    width_small q = (number_kind s at max_u32 _ _ (num _ e q)).1
+  module _ {a : Result (ℕ × Cursor) Refusal} (e : a ≡ answer (read_number max_u32 s at)) where
+    pub width_small : {w : ℕ} {c : Cursor} → a ≡ Ok (w, c) → w ≤ max_u32
+    width_small q = (number_kind s at max_u32 _ _ (got _ e q)).1
 
-    pub width_is : {w : ℕ} {c : Cursor} → a ≡ Got w c → ty_of s (ty.Bit w) ≡ width_type (read_number max_u32 s at)
+    pub width_is : {w : ℕ} {c : Cursor} → a ≡ Ok (w, c) → ty_of s (ty.Bit w) ≡ width_type (read_number max_u32 s at)
     unfolding ty_of width_type
-    width_is q = rw (num _ e q)
+    width_is q = rw (got _ e q)
 
-    pub width_none : {f : Fault} {p : ℕ} → a ≡ Refused f p → ty_of s ty.Bool ≡ width_type (read_number max_u32 s at)
+    pub width_none : {f : Refusal} → a ≡ Err f → ty_of s ty.Bool ≡ width_type (read_number max_u32 s at)
     unfolding ty_of width_type
     width_none q = rw (out _ e q)
 
-  module _ {a : Tagged} (e : a ≡ tagged_of (read_tag s at)) where
-    pub type_none : {f : Fault} {p : ℕ} → a ≡ tagged.Refused f p → ty_of s ty.Bool ≡ expr_type_at s at
+  module _ {a : Result (Tag × Cursor) Refusal} (e : a ≡ answer (read_tag s at)) where
+    pub type_none : {f : Refusal} → a ≡ Err f → ty_of s ty.Bool ≡ expr_type_at s at
     unfolding ty_of expr_type_at case_type
     type_none q = rw (tag_out _ e q)
 
-    module _ {t : Tag} {c : Cursor} (q : a ≡ tagged.Case t c) where
+    module _ {t : Tag} {c : Cursor} (q : a ≡ Ok (t, c)) where
       pub case_width : t.case ≡ 1 → width_type (read_number max_u32 s c.at) ≡ expr_type_at s at
       unfolding expr_type_at case_type pick
       case_width k = rw (tag_was _ e q, k)
@@ -208,10 +196,6 @@ module _ (s : List ℕ) (at : ℕ) where
       unfolding ty_of expr_type_at case_type pick
       type_enum k = rw (tag_was _ e q, k)
 
-      pub type_bool : t.case ≡ 0 → ty_of s ty.Bool ≡ expr_type_at s at
-      unfolding ty_of expr_type_at case_type pick
-      type_bool k = rw (tag_was _ e q, k)
-
       pub type_beyond : (t.case ≡ 1 → ⊥) → (t.case ≡ 2 → ⊥) → ty_of s ty.Bool ≡ expr_type_at s at
       unfolding ty_of expr_type_at case_type pick
       type_beyond h k = rw (tag_was _ e q, ne_eqb t.case 1 h, ne_eqb t.case 2 k)
@@ -222,11 +206,11 @@ pairs_length zero s k = refl
 pairs_length (suc c) s k = let q = pairs_length c s (after_item s k) in omega arith
 
 -- the place after a record's head
-pub head_to : (m : Read ℕ) {r : Answer} {v : ℕ} {c : Cursor} → r ≡ answer m → r ≡ Got v c → c.at ≡ place_after m
+pub head_to : (m : Read ℕ) {r : Result (ℕ × Cursor) Refusal} {v : ℕ} {c : Cursor} → r ≡ answer m → r ≡ Ok (v, c) → c.at ≡ place_after m
 unfolding place_after
-head_to m e q = rw (num m e q)
+head_to m e q = rw (got m e q)
 
-pub head_out : (m : Read ℕ) {r : Answer} {f : Fault} {p : ℕ} → r ≡ answer m → r ≡ Refused f p → p ≡ place_after m
+pub head_out : (m : Read ℕ) {r : Result (ℕ × Cursor) Refusal} {f : Refusal} → r ≡ answer m → r ≡ Err f → f.place ≡ place_after m
 unfolding place_after
 head_out m e q = rw (out m e q)
 

@@ -1,4 +1,5 @@
 -- What each step of an expression's typing gives, for whatever reads there.
+use Rattle.std.specs.Prelude.{Ok, Err}
 use Prim.Native.Nat.{ℕ, suc, ◌-◌}
 use mathlib.Core.Path.{◌≡◌, refl, sym, ap, subst, ◌∙◌}
 use mathlib.Core.Bool.{Bool, true}
@@ -8,17 +9,12 @@ use Rattle.reading.specs.Read.{ok}
 use Rattle.reading.specs.Item.{read_case, read_tag}
 use Rattle.reading.specs.Limits.{max_u64}
 use Rattle.reading.specs.Expr.{Expr, unary_ops, bin_ops, read_path, read_expr}
-use Rattle.reading.specs.Link.{answer, tagged_of}
+use Rattle.reading.specs.Link.{answer}
 use Rattle.reading.specs.Views.{ExprAt, int_expr, bool_expr, path_expr, unary_expr, binary_expr}
 use Rattle.reading.specs.declared.cursor.Cursor.{Cursor}
-use Rattle.reading.specs.declared.fault.Fault.{Fault}
-use Rattle.reading.specs.declared.item.Answer.{Answer}
-use Rattle.reading.specs.declared.item.Answer.TheVariants.{Got, Refused}
 use Rattle.reading.specs.declared.item.Tag.{Tag}
-use Rattle.reading.specs.declared.item.Tagged.{Tagged}
-use Rattle.reading.specs.declared.item.Tagged.TheVariants as tagged
 use Rattle.reading.proofs.Rules.{no}
-use Rattle.reading.proofs.Answers.{num, out}
+use Rattle.reading.proofs.Answers.{got, out}
 use Rattle.reading.proofs.ItemLaws.{number_laws, bool_laws}
 use Rattle.reading.proofs.ExprLaws.{expr_laws}
 use Rattle.reading.proofs.CaseViews.{expr_at, by_tag}
@@ -29,21 +25,21 @@ use Rattle.typing.specs.Causes.{Answer as TypeAnswer, is, fails, and_then}
 use Rattle.typing.specs.Rules.{is_bool, unary_type, bin_op, binary_type}
 use Rattle.typing.specs.Env.{Env, Agree}
 use Rattle.typing.specs.Typing.{type_expr}
-use Rattle.typing.specs.Means.{ty_of, cause_of, good, bad, typed_of, outcome}
+use Rattle.typing.specs.Means.{ty_of, cause_of, good, bad, typed_of, outcome, Typed}
 use Rattle.typing.specs.Tells.{Ends}
 use Rattle.typing.specs.Table.{place_after, Past}
 use Rattle.typing.specs.Typed.{Resolves, Types, TypesUnary, TypesBinary}
 use Rattle.typing.specs.declared.ty.Ty.{Ty}
 use Rattle.typing.specs.declared.ty.Ty.TheVariants as ty
 use Rattle.typing.specs.declared.cause.Cause.{Cause}
-use Rattle.typing.specs.declared.cause.Typed.{Typed}
-use Rattle.typing.specs.declared.cause.Typed.TheVariants.{Is, Fails}
 use Rattle.typing.proofs.RuleLaws.{not_bool}
 use Rattle.typing.proofs.TableLaws.{tag_was, tag_out}
 use Rattle.typing.proofs.EnvLaws.{after_is}
 use Rattle.typing.proofs.Depends.{type_agree}
-
 -- an expression ends where the item does
+use Rattle.std.specs.Prelude.{Result}
+use Rattle.reading.specs.declared.fault.Refusal.{Refusal}
+
 pub expr_ends : (d : ℕ) (s : List ℕ) (at : ℕ) {r : ℕ} → Past s at r → Ends (read_expr d s at) r
 unfolding place_after
 expr_ends d s at e = record { of = λ x n q. e.is ∙ ap place_after (passed (expr_laws d) s e.each at x n q) }
@@ -60,17 +56,17 @@ cause_was (is u) n e = no (cc)
 cause_was (fails d) n e = cc
 
 module _ (env : Env) (d : ℕ) (s : List ℕ) (at : ℕ) {t : Typed} (h : Types env d s at t) (e : Expr) (n : ℕ) (q : read_expr d s at ≡ ok e n) where
-  pub is_typed : {τ : Ty} {m : ℕ} → t ≡ Is τ m → (type_expr env e ≡ is (ty_of s τ)) × (m ≡ n)
+  pub is_typed : {τ : Ty} {m : ℕ} → t ≡ Ok (τ, m) → (type_expr env e ≡ is (ty_of s τ)) × (m ≡ n)
   unfolding typed_of
   is_typed z = type_was (type_expr env e) (rw z at (h.of e n q))
 
-  pub is_failed : {c : Cause} → t ≡ Fails c → type_expr env e ≡ fails (cause_of s c)
+  pub is_failed : {c : Cause} → t ≡ Err c → type_expr env e ≡ fails (cause_of s c)
   unfolding typed_of
   is_failed z = cause_was (type_expr env e) n (rw z at (h.of e n q))
 
 -- the fields of the case that stands there
-module _ (d : ℕ) (s : List ℕ) (at : ℕ) {a : Tagged} (e : a ≡ tagged_of (read_tag s at)) where
-  pub fields_are : (d ≡ 0 → ⊥) → {t : Tag} {c : Cursor} → a ≡ tagged.Case t c → (x : Expr) (n : ℕ) → read_expr d s at ≡ ok x n → ExprAt (d - 1) s c.at t.case x n
+module _ (d : ℕ) (s : List ℕ) (at : ℕ) {a : Result (Tag × Cursor) Refusal} (e : a ≡ answer (read_tag s at)) where
+  pub fields_are : (d ≡ 0 → ⊥) → {t : Tag} {c : Cursor} → a ≡ Ok (t, c) → (x : Expr) (n : ℕ) → read_expr d s at ≡ ok x n → ExprAt (d - 1) s c.at t.case x n
   fields_are z q x n g =
       let k : d ≡ suc (d - 1) = omega arith in
       by_tag (expr_at (d - 1) s at x n (ap (λ (i : ℕ). read_expr i s at) (sym k) ∙ g)) (tag_was _ e q)
@@ -81,7 +77,7 @@ module _ (env : Env) (d : ℕ) (s : List ℕ) (at : ℕ) (r : Typed) where
   unfolding read_expr
   too_deep z = record { of = λ e n q. let w = rw z at q in no (cc) }
 
-  pub no_tag : {a : Tagged} {f : Fault} {p : ℕ} → (d ≡ 0 → ⊥) → a ≡ tagged_of (read_tag s at) → a ≡ tagged.Refused f p → Types env d s at r
+  pub no_tag : {a : Result (Tag × Cursor) Refusal} {f : Refusal} → (d ≡ 0 → ⊥) → a ≡ answer (read_tag s at) → a ≡ Err f → Types env d s at r
   no_tag z e q = record {
     of = λ x n g.
         let k : d ≡ suc (d - 1) = omega arith in
@@ -139,12 +135,12 @@ module _ (env : Env) {d : ℕ} {s : List ℕ} {m : ℕ} where
   beyond_type (binary_expr q t u) a b c f g = absurd (g refl)
 
 -- the arms
-module _ (env : Env) (d : ℕ) (s : List ℕ) (at : ℕ) {a : Tagged} {t : Tag} {c : Cursor} (z : d ≡ 0 → ⊥) (e : a ≡ tagged_of (read_tag s at)) (q : a ≡ tagged.Case t c) where
-  pub arm_int : {next : ℕ} → t.case ≡ 0 → Past s c.at next → Types env d s at (Is ty.IntLit next)
+module _ (env : Env) (d : ℕ) (s : List ℕ) (at : ℕ) {a : Result (Tag × Cursor) Refusal} {t : Tag} {c : Cursor} (z : d ≡ 0 → ⊥) (e : a ≡ answer (read_tag s at)) (q : a ≡ Ok (t, c)) where
+  pub arm_int : {next : ℕ} → t.case ≡ 0 → Past s c.at next → Types env d s at (Ok (ty.IntLit, next))
   unfolding typed_of outcome ty_of
   arm_int k o = record { of = λ x n w. let y = int_type env (fields_are d s at e z q x n w) k o in rw (y.0, y.1) }
 
-  pub arm_bool : {next : ℕ} → t.case ≡ 1 → Past s c.at next → Types env d s at (Is ty.Bool next)
+  pub arm_bool : {next : ℕ} → t.case ≡ 1 → Past s c.at next → Types env d s at (Ok (ty.Bool, next))
   unfolding typed_of outcome ty_of
   arm_bool k o = record { of = λ x n w. let y = bool_type env (fields_are d s at e z q x n w) k o in rw (y.0, y.1) }
 
@@ -161,67 +157,67 @@ module _ (env : Env) (d : ℕ) (s : List ℕ) (at : ℕ) {a : Tagged} {t : Tag} 
   arm_beyond r k l m o p = record { of = λ x n w. beyond_type env (fields_are d s at e z q x n w) k l m o p }
 
 -- a unary expression, from its operator on
-module _ (env : Env) (d : ℕ) (s : List ℕ) (at : ℕ) {a : Answer} (e : a ≡ answer (read_case unary_ops s at)) where
-  pub unary_none : (r : Typed) {f : Fault} {p : ℕ} → a ≡ Refused f p → TypesUnary env d s at r
+module _ (env : Env) (d : ℕ) (s : List ℕ) (at : ℕ) {a : Result (ℕ × Cursor) Refusal} (e : a ≡ answer (read_case unary_ops s at)) where
+  pub unary_none : (r : Typed) {f : Refusal} → a ≡ Err f → TypesUnary env d s at r
   unary_none r q = record { of = λ op k x n u v. no (let w = out _ e q in cc) }
 
-  module _ {op : ℕ} {c : Cursor} {t : Typed} (q : a ≡ Got op c) (h : Types env d s c.at t) where
-    pub unary_out : {x : Cause} → t ≡ Fails x → TypesUnary env d s at t
+  module _ {op : ℕ} {c : Cursor} {t : Typed} (q : a ≡ Ok (op, c)) (h : Types env d s c.at t) where
+    pub unary_out : {x : Cause} {r : Typed} → t ≡ Err x → r ≡ Err x → TypesUnary env d s at r
     unfolding type_expr and_then typed_of outcome
-    unary_out z = record {
+    unary_out z g = record {
       of = λ o k x n u v.
-          let w = num _ e q in
+          let w = got _ e q in
           let y : c.at ≡ k = cc in
           let v' = ap (read_expr d s) y ∙ v in
-          rw (z, is_failed env d s c.at h x n v' z);
+          rw (g, is_failed env d s c.at h x n v' z);
     }
 
-    pub unary_goes : {τ : Ty} {next : ℕ} (r : Typed) → t ≡ Is τ next → typed_of s r ≡ outcome next (unary_type op (ty_of s τ)) → TypesUnary env d s at r
+    pub unary_goes : {τ : Ty} {next : ℕ} (r : Typed) → t ≡ Ok (τ, next) → typed_of s r ≡ outcome next (unary_type op (ty_of s τ)) → TypesUnary env d s at r
     unfolding type_expr and_then
     unary_goes r z g = record {
       of = λ o k x n u v.
-          let w = num _ e q in
+          let w = got _ e q in
           let y : c.at ≡ k = cc in
           let i : op ≡ o = cc in
           let j = is_typed env d s c.at h x n (ap (read_expr d s) y ∙ v) z in
           rw j.0 (rw (i, j.1) at g);
     }
 
-    pub unary_not : {τ : Ty} {next : ℕ} {x : Bool} → t ≡ Is τ next → op ≡ 0 → x ≡ is_bool (ty_of s τ) → x ≡ true → TypesUnary env d s at (Is ty.Bool next)
-    unary_not {τ} {next} z k p g = unary_goes (Is ty.Bool next) z (not_bool s op τ next p k g)
+    pub unary_not : {τ : Ty} {next : ℕ} {x : Bool} → t ≡ Ok (τ, next) → op ≡ 0 → x ≡ is_bool (ty_of s τ) → x ≡ true → TypesUnary env d s at (Ok (ty.Bool, next))
+    unary_not {τ} {next} z k p g = unary_goes (Ok (ty.Bool, next)) z (not_bool s op τ next p k g)
 
 -- a binary expression
-module _ (env : Env) (d : ℕ) (s : List ℕ) (at : ℕ) {a : Answer} (e : a ≡ answer (read_case bin_ops s at)) where
-  pub binary_none : (r : Typed) {f : Fault} {p : ℕ} → a ≡ Refused f p → TypesBinary env d s at r
+module _ (env : Env) (d : ℕ) (s : List ℕ) (at : ℕ) {a : Result (ℕ × Cursor) Refusal} (e : a ≡ answer (read_case bin_ops s at)) where
+  pub binary_none : (r : Typed) {f : Refusal} → a ≡ Err f → TypesBinary env d s at r
   binary_none r q = record { of = λ op k x j y n u v w. no (let z = out _ e q in cc) }
 
-  module _ {op : ℕ} {c : Cursor} {t : Typed} (q : a ≡ Got op c) (h : Types env d s c.at t) where
-    pub left_out : {x : Cause} → t ≡ Fails x → TypesBinary env d s at t
+  module _ {op : ℕ} {c : Cursor} {t : Typed} (q : a ≡ Ok (op, c)) (h : Types env d s c.at t) where
+    pub left_out : {x : Cause} {r : Typed} → t ≡ Err x → r ≡ Err x → TypesBinary env d s at r
     unfolding type_expr and_then typed_of outcome
-    left_out z = record {
+    left_out z g = record {
       of = λ o k x j y n u v w.
-          let b = num _ e q in
+          let b = got _ e q in
           let i : c.at ≡ k = cc in
           let v' = ap (read_expr d s) i ∙ v in
-          rw (z, is_failed env d s c.at h x j v' z);
+          rw (g, is_failed env d s c.at h x j v' z);
     }
 
-    module _ {τ : Ty} {right : ℕ} {t' : Typed} (z : t ≡ Is τ right) (h' : Types env d s right t') where
-      pub right_out : {x : Cause} → t' ≡ Fails x → TypesBinary env d s at t'
+    module _ {τ : Ty} {right : ℕ} {t' : Typed} (z : t ≡ Ok (τ, right)) (h' : Types env d s right t') where
+      pub right_out : {x : Cause} {r : Typed} → t' ≡ Err x → r ≡ Err x → TypesBinary env d s at r
       unfolding type_expr and_then typed_of outcome
-      right_out z' = record {
+      right_out z' g = record {
         of = λ o k x j y n u v w.
-            let b = num _ e q in
+            let b = got _ e q in
             let i : c.at ≡ k = cc in
             let f = is_typed env d s c.at h x j (ap (read_expr d s) i ∙ v) z in
-            rw (z', f.0, is_failed env d s right h' y n (ap (read_expr d s) f.1 ∙ w) z');
+            rw (g, f.0, is_failed env d s right h' y n (ap (read_expr d s) f.1 ∙ w) z');
       }
 
-      pub binary_goes : {τ' : Ty} {next : ℕ} (r : Typed) → t' ≡ Is τ' next → typed_of s r ≡ outcome next (binary_type (bin_op op) (ty_of s τ) (ty_of s τ')) → TypesBinary env d s at r
+      pub binary_goes : {τ' : Ty} {next : ℕ} (r : Typed) → t' ≡ Ok (τ', next) → typed_of s r ≡ outcome next (binary_type (bin_op op) (ty_of s τ) (ty_of s τ')) → TypesBinary env d s at r
       unfolding type_expr and_then
       binary_goes r z' g = record {
         of = λ o k x j y n u v w.
-            let b = num _ e q in
+            let b = got _ e q in
             let i : c.at ≡ k = cc in
             let p : op ≡ o = cc in
             let f = is_typed env d s c.at h x j (ap (read_expr d s) i ∙ v) z in

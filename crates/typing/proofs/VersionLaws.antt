@@ -6,7 +6,7 @@ use mathlib.Core.List.{List, [], ◌∷◌}
 use native.Mathlib.Omega.{arith}
 use native.Mathlib.Numerals.{add-one}
 use lib.Dec.{eqb}
-use lib.ListN.{length, drop, get_or, drop_of_length-le, get_or-eq_default}
+use lib.ListN.{length, drop, get_or, drop_of_length-le}
 use lib.Seq.{drop-cons}
 use borrow.Author.Tests.{eq-eqb, ne_eqb}
 use Rattle.reading.specs.Read.{pick}
@@ -142,14 +142,6 @@ module _ (v : List ℕ) (i n : ℕ) (r : run n (drop i v) ≡ is_valid_version_f
   run_done h e = e ∙ (rw (drop_of_length-le v h) at r)
 
 -- one byte
-pub dot_beyond : (n : ℕ) → 4 ≤ n → 6 ≡ after_dot n
-unfolding after_dot
-dot_beyond n h = sym (get_or-eq_default (6 ∷ 2 ∷ 6 ∷ 4 ∷ []) 6 {n = n} h)
-
-pub digit_beyond : (n : ℕ) → 6 ≤ n → 6 ≡ after_digit n
-unfolding after_digit
-digit_beyond n h = sym (get_or-eq_default (1 ∷ 1 ∷ 3 ∷ 3 ∷ 5 ∷ 5 ∷ []) 6 {n = n} h)
-
 module _ (n b : ℕ) where
   pub next_dot : {r : ℕ} → b ≡ 46 → r ≡ after_dot n → r ≡ next_version_state n b
   unfolding next_version_state pick

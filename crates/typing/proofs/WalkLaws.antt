@@ -1,5 +1,6 @@
 -- A walk over a pattern's fields and the declared ones: what is left of both, judged by the names passed, and put after what is bound
 -- already, makes the whole.
+use Rattle.std.specs.Prelude.{Result, Ok, Err, ⊤}
 use Prim.Native.Nat.{ℕ, suc, ◌+◌, ◌-◌, ◌*◌, ◌<◌, ◌≤◌}
 use mathlib.Core.Path.{◌≡◌, refl, sym, ap, subst, ◌∙◌}
 use mathlib.Core.Bool.{Bool, true, false}
@@ -27,10 +28,7 @@ use Rattle.typing.specs.Table.{Past}
 use Rattle.typing.specs.Blames.{Bound, none_bound, more_bound, Binds, Spares}
 use Rattle.typing.specs.Entries.{Entered}
 use Rattle.typing.specs.Fields.{PartsAt, field_named, named_from, stepped, Apart, Known, no_more, JudgesField, JudgesFields}
-use Rattle.typing.specs.declared.cause.Cause.{Cause}
-use Rattle.typing.specs.declared.cause.Within.{Within}
 use Rattle.typing.specs.declared.cause.Blame.{Blame}
-use Rattle.typing.specs.declared.cause.Blame.TheVariants.{Nothing, Found}
 use Rattle.typing.specs.declared.cause.Bindings.{Bindings}
 use Rattle.typing.specs.declared.field.Parts.{Parts}
 use Rattle.typing.proofs.EnvLaws.{after_is}
@@ -145,7 +143,7 @@ pub record Left (s : List ℕ) (at k : ℕ) (table : List ℕ) (whole : Judged) 
   pub declared : Entered read_field_decl s left f decls
   pub place : p ≡ stepped s at i
   pub passed : Passed s at i seen
-  pub so_far : Binds s table k made (record { blame = Nothing; words = j }) now
+  pub so_far : Binds s table k made (record { blame = Ok tt; words = j }) now
   pub same : joined made (judge_fields seen decls fields) ≡ whole
 
 -- the field whose turn it is: what it makes by itself, and those after it
@@ -187,18 +185,18 @@ module _ (s : List ℕ) (at at' count k : ℕ) (table : List ℕ) where
   }
 
   module _ {i p f j : ℕ} {now : List ℕ} (g : Walking s at at' count k table i p f j now) where
-    pub fields_done : count ≤ i → JudgesFields s at at' count table k (record { blame = Nothing; words = j }) now
+    pub fields_done : count ≤ i → JudgesFields s at at' count table k (record { blame = Ok tt; words = j }) now
     unfolding judge_fields blame_of
     fields_done h = record {
       of = λ xs fs q r.
           let l = g.of xs fs q r in
           let none = none_left l.decls (omega arith) l.declared in
-          subst (λ (o : Judged). Binds s table k o (record { blame = Nothing; words = j }) now)
+          subst (λ (o : Judged). Binds s table k o (record { blame = Ok tt; words = j }) now)
           (sym (joined_none l.made (sym l.so_far.fault)) ∙ (λ i. joined l.made (judge_fields l.seen (sym none i) l.fields)) ∙ l.same)
           l.so_far;
     }
 
-    pub done_spares : Spares table k (record { blame = Nothing; words = j }) now
+    pub done_spares : Spares table k (record { blame = Ok tt; words = j }) now
     done_spares = record { few = omega (arith, g.few, g.upto, g.room); kept = g.kept }
 
     module _ (h : i < count) {apart many : ℕ} {own decl : Parts} {r : Bindings} {now' : List ℕ} (v : Apart s at apart) (e : many ≡ pick (ltb i apart) 0 i) (a : PartsAt s p own) (b : PartsAt s f decl) (o : JudgesField s own decl at many now (k + j) r now') where
@@ -228,7 +226,7 @@ module _ (s : List ℕ) (at at' count k : ℕ) (table : List ℕ) where
       pub stop_spares : Spares table k (record { blame = r.blame; words = j + r.words }) now'
       stop_spares = record { few = omega (arith, g.few, g.room, o.few); kept = turn_keeps }
 
-      pub fields_stop : {w : Within} {c : Cause} → r.blame ≡ Found w c → JudgesFields s at at' count table k (record { blame = r.blame; words = j + r.words }) now'
+      pub fields_stop : {x : Blame} → r.blame ≡ Err x → JudgesFields s at at' count table k (record { blame = r.blame; words = j + r.words }) now'
       unfolding blame_of
       fields_stop y = record {
         of = λ xs fs q u.
@@ -238,7 +236,7 @@ module _ (s : List ℕ) (at at' count k : ℕ) (table : List ℕ) where
             subst (λ (z : Judged). Binds s table k z (record { blame = r.blame; words = j + r.words }) now') (ap (joined l.made) (sym e) ∙ t.same) (binds_join l.so_far t.own);
       }
 
-      pub fields_more : {p' f' : ℕ} → r.blame ≡ Nothing → length now' ≡ length now → Past s own.under p' → Past s decl.under f' → Walking s at at' count k table (i + 1) p' f' (j + r.words) now'
+      pub fields_more : {p' f' : ℕ} → r.blame ≡ Ok tt → length now' ≡ length now → Past s own.under p' → Past s decl.under f' → Walking s at at' count k table (i + 1) p' f' (j + r.words) now'
       unfolding blame_of
       fields_more y z past past' = record {
         size = z ∙ g.size;
@@ -263,7 +261,7 @@ module _ (s : List ℕ) (at at' count k : ℕ) (table : List ℕ) where
               declared = rw (sym w) (entered_at (field_ends s f t.decl.head t.decl.end t.decl.here b.under past') t.decl.rest);
               place = stepped_more s at i l.place (end ∙ sym (after_is pattern_field_laws s past.each p t.field.head t.field.end t.field.here));
               passed = passed_more s at i p l.seen t.field.head t.field.end l.place t.field.here l.passed;
-              so_far = subst (λ (b : Blame). Binds s table k (joined l.made made) (record { blame = b; words = j + r.words }) now') y (binds_join l.so_far t.own);
+              so_far = subst (λ (b : Result ⊤ Blame). Binds s table k (joined l.made made) (record { blame = b; words = j + r.words }) now') y (binds_join l.so_far t.own);
               same = joined_joined l.made made rest ∙ ap (joined l.made) (sym e) ∙ t.same;
             };
       }

@@ -1,5 +1,5 @@
 -- What the judging of a pattern's field promises; and a field's pattern against its type, by the type alone.
-use Rattle.std.specs.Prelude.{ℕ, ◌≡◌, List, Bool}
+use Rattle.std.specs.Prelude.{ℕ, ◌≡◌, List, Bool, Option as Maybe, Some, None}
 use Rattle.std.proofs.Math.Option.{Option, none, some}
 use Rattle.reading.specs.Read.{ok, pick}
 use Rattle.reading.specs.Limits.{max_u64}
@@ -13,10 +13,7 @@ use Rattle.reading.specs.Skip.{text_at}
 use Rattle.typing.specs.Types.{ExprType, bool, bit, int_lit, enum}
 use Rattle.typing.specs.Causes.{Cause, does_not_fit, integer_on_bool, integer_on_enum, boolean_literal}
 use Rattle.typing.specs.Patterns.{fits, variant_of, pattern_expr_compatible}
-use Rattle.typing.specs.Means.{unfit_of}
-use Rattle.typing.specs.declared.rules.Fit.{Fit}
-use Rattle.typing.specs.declared.table.Found.{Found}
-use Rattle.typing.specs.declared.table.Found.TheVariants.{At, Nothing}
+use Rattle.typing.specs.Means.{unfit_of, Fit}
 
 -- an integer literal and a boolean literal on a type; no field is declared with IntLit
 unfoldable pub int_on : ℕ → ExprType → Option Cause
@@ -37,11 +34,11 @@ enum_name decl.bool = none
 enum_name (decl.bit w) = none
 enum_name (decl.enum n) = some n
 
-unfoldable pub name_found : List ℕ → Found → Option Name
-name_found s (At at) = some (text_at s at)
-name_found s Nothing = none
+unfoldable pub name_found : List ℕ → Maybe ℕ → Option Name
+name_found s (Some at) = some (text_at s at)
+name_found s None = none
 
-pub record EnumOf (s : List ℕ) (at : ℕ) (r : Found) : Type 0 where
+pub record EnumOf (s : List ℕ) (at : ℕ) (r : Maybe ℕ) : Type 0 where
   pub of : (t : Ty) (n : ℕ) → read_ty s at ≡ ok t n → name_found s r ≡ enum_name t
 
 -- a path against an enum's name

@@ -9,9 +9,7 @@ use Rattle.typing.specs.Causes.{Answer}
 use Rattle.typing.specs.Env.{Env}
 use Rattle.typing.specs.Typing.{type_expr}
 use Rattle.typing.specs.Outputs.{arg_cause}
-use Rattle.typing.specs.Means.{typed_of, outcome, unfit_of}
-use Rattle.typing.specs.declared.cause.Typed.{Typed}
-use Rattle.typing.specs.declared.rules.Fit.{Fit}
+use Rattle.typing.specs.Means.{typed_of, outcome, unfit_of, Fit, Typed}
 
 -- an argument that was typed, of a field whose type stands at a place
 pub record AcceptsTyped (s : List ℕ) (t : Typed) (ty : ℕ) (r : Fit) : Type 0 where

@@ -1,5 +1,5 @@
 -- What the judging of a whole pattern and of an output promises: for whatever reads there, its answer is the definition's.
-use Rattle.std.specs.Prelude.{ℕ, ◌≤◌, ◌≡◌, List, [], ◌∷◌, length, take}
+use Rattle.std.specs.Prelude.{ℕ, ◌≤◌, ◌≡◌, List, [], ◌∷◌, length, take, Result, ⊤}
 use Rattle.std.proofs.lemmas.List.Edits.{sets}
 use Rattle.reading.specs.Read.{ok}
 use Rattle.reading.specs.Decl.{ConstructorGroup}
@@ -40,5 +40,5 @@ pub record JudgesPattern (s : List ℕ) (at : ℕ) (events table : List ℕ) (k 
   pub of : (gs : List ConstructorGroup) (p : Pattern) (j : ℕ) → GroupsAt s events gs → read_pattern s at ≡ ok p j → Binds s table k (validate_event_pattern gs p) r table'
 
 -- the output at a place, by a table of outputs
-pub record JudgesOutput (env : Env) (s : List ℕ) (at : ℕ) (outputs : List ℕ) (r : Blame) : Type 0 where
+pub record JudgesOutput (env : Env) (s : List ℕ) (at : ℕ) (outputs : List ℕ) (r : Result ⊤ Blame) : Type 0 where
   pub of : (gs : List ConstructorGroup) (o : OutputExpr) (j : ℕ) → OutputsAt s outputs gs → read_output_expr s at ≡ ok o j → blame_of s r ≡ validate_output_expr gs env o

@@ -1,6 +1,6 @@
 -- The equalities of a guard, and what the search for them and for a clash promises: for whatever reads there, its answer
 -- is the definition's.
-use Rattle.std.specs.Prelude.{ℕ, ◌-◌, ◌≡◌, List, [], ◌∷◌, ◌++◌, Bool, eqb}
+use Rattle.std.specs.Prelude.{ℕ, ◌-◌, ◌≡◌, List, [], ◌∷◌, ◌++◌, Bool, eqb, Option as Maybe, Some, None}
 use Rattle.std.proofs.Math.Option.{Option, none, some}
 use Rattle.reading.specs.Read.{ok, pick}
 use Rattle.reading.specs.Limits.{max_u64}
@@ -16,7 +16,6 @@ use Rattle.typing.specs.Guards.{is_literal_false, conjuncts, equated, equality}
 use Rattle.typing.specs.Holds.{clash_of}
 use Rattle.typing.specs.declared.guard.Clash.{Clash}
 use Rattle.typing.specs.declared.equality.Equality.{Equality}
-use Rattle.typing.specs.declared.equality.Equality.TheVariants.{Nothing, Is}
 use Rattle.typing.specs.declared.equality.Conjunct.{Conjunct}
 use Rattle.typing.specs.declared.equality.Conjunct.TheVariants.{And, One}
 use Rattle.typing.specs.declared.side.Side.{Side}
@@ -79,14 +78,14 @@ side_of s (side.Value v) = value v
 side_of s (side.Name at) = name (text_at s at)
 side_of s side.Other = other
 
-unfoldable pub equality_of : List ℕ → Equality → Option guards.Equality
-equality_of s Nothing = none
-equality_of s (Is n v) = some (record { name = text_at s n; value = v })
+unfoldable pub equality_of : List ℕ → Maybe Equality → Option guards.Equality
+equality_of s None = none
+equality_of s (Some q) = some (record { name = text_at s q.name; value = q.value })
 
 -- two operands that stand one after the other, or an equality at most
 pub data ConjunctIs (d : ℕ) (s : List ℕ) : Conjunct → List guards.Equality → Type 0 where
   and_is : {k j n : ℕ} {l r : Expr} → read_expr d s k ≡ ok l j → read_expr d s j ≡ ok r n → ConjunctIs d s (And k) (equalities_of r ++ equalities_of l)
-  one_is : {q : Equality} {e : List guards.Equality} → e ≡ listed (equality_of s q) → ConjunctIs d s (One q) e
+  one_is : {q : Maybe Equality} {e : List guards.Equality} → e ≡ listed (equality_of s q) → ConjunctIs d s (One q) e
 
 -- the fields of an int, of a path and of a bool
 pub record ValueAt (s : List ℕ) (at : ℕ) (r : Side) : Type 0 where
@@ -102,7 +101,7 @@ pub record FalseAt (s : List ℕ) (at : ℕ) (r : Bool) : Type 0 where
 pub record SideAt (d : ℕ) (s : List ℕ) (at : ℕ) (r : Side) : Type 0 where
   pub of : (e : Expr) (n : ℕ) → read_expr d s at ≡ ok e n → side_of s r ≡ operand_of e
 
-pub record EqualityAt (d : ℕ) (s : List ℕ) (at : ℕ) (r : Equality) : Type 0 where
+pub record EqualityAt (d : ℕ) (s : List ℕ) (at : ℕ) (r : Maybe Equality) : Type 0 where
   pub of : (a : Expr) (j : ℕ) (b : Expr) (n : ℕ) → read_expr d s at ≡ ok a j → read_expr d s j ≡ ok b n → equality_of s r ≡ equated a b
 
 pub record OperatorAt (d : ℕ) (s : List ℕ) (at : ℕ) (r : Conjunct) : Type 0 where
@@ -112,18 +111,18 @@ pub record ConjunctAt (d : ℕ) (s : List ℕ) (at : ℕ) (r : Conjunct) : Type 
   pub of : (e : Expr) (n : ℕ) → read_expr d s at ≡ ok e n → ConjunctIs (d - 1) s r (equalities_of e)
 
 -- the first equality of a name, in an expression and in two of them: right before left
-pub record FirstEquality (d : ℕ) (s : List ℕ) (at : ℕ) (w : Name) (r : Equality) : Type 0 where
+pub record FirstEquality (d : ℕ) (s : List ℕ) (at : ℕ) (w : Name) (r : Maybe Equality) : Type 0 where
   pub of : (e : Expr) (n : ℕ) → read_expr d s at ≡ ok e n → equality_of s r ≡ first_called name_in w (equalities_of e)
 
-pub record FirstOfTwo (d : ℕ) (s : List ℕ) (at : ℕ) (w : Name) (r : Equality) : Type 0 where
+pub record FirstOfTwo (d : ℕ) (s : List ℕ) (at : ℕ) (w : Name) (r : Maybe Equality) : Type 0 where
   pub of : (a : Expr) (j : ℕ) (b : Expr) (n : ℕ) → read_expr d s at ≡ ok a j → read_expr d s j ≡ ok b n → equality_of s r ≡ first_called name_in w (equalities_of b ++ equalities_of a)
 
 -- the first clash with a guard's equalities: of an equality at most, of an expression and of two of them
-pub record ClashOf (s : List ℕ) (root depth : ℕ) (q : Equality) (r : Clash) : Type 0 where
+pub record ClashOf (s : List ℕ) (root depth : ℕ) (q : Maybe Equality) (r : Maybe Clash) : Type 0 where
   pub of : (g : Expr) (m : ℕ) → read_expr depth s root ≡ ok g m → clash_of s r ≡ first_clash (equalities_of g) (listed (equality_of s q))
 
-pub record FirstClash (d : ℕ) (s : List ℕ) (at root depth : ℕ) (r : Clash) : Type 0 where
+pub record FirstClash (d : ℕ) (s : List ℕ) (at root depth : ℕ) (r : Maybe Clash) : Type 0 where
   pub of : (e : Expr) (n : ℕ) (g : Expr) (m : ℕ) → read_expr d s at ≡ ok e n → read_expr depth s root ≡ ok g m → clash_of s r ≡ first_clash (equalities_of g) (equalities_of e)
 
-pub record ClashOfTwo (d : ℕ) (s : List ℕ) (at root depth : ℕ) (r : Clash) : Type 0 where
+pub record ClashOfTwo (d : ℕ) (s : List ℕ) (at root depth : ℕ) (r : Maybe Clash) : Type 0 where
   pub of : (a : Expr) (j : ℕ) (b : Expr) (n : ℕ) (g : Expr) (m : ℕ) → read_expr d s at ≡ ok a j → read_expr d s j ≡ ok b n → read_expr depth s root ≡ ok g m → clash_of s r ≡ first_clash (equalities_of g) (equalities_of b ++ equalities_of a)

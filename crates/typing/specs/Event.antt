@@ -1,5 +1,5 @@
 -- What the judging of a pattern's variant promises: for whatever reads there, its answer is the definition's.
-use Rattle.std.specs.Prelude.{ℕ, ◌≡◌, List}
+use Rattle.std.specs.Prelude.{ℕ, ◌≡◌, List, Err}
 use Rattle.std.proofs.Math.Option.{some}
 use Rattle.reading.specs.Read.{ok}
 use Rattle.reading.specs.Text.{Name}
@@ -14,12 +14,11 @@ use Rattle.typing.specs.Patterns.{judge_variant, judge_group}
 use Rattle.typing.specs.Blames.{Binds}
 use Rattle.typing.specs.declared.cause.Cause.{Cause}
 use Rattle.typing.specs.declared.cause.Within.TheVariants.{Alone}
-use Rattle.typing.specs.declared.cause.Blame.TheVariants.{Found}
 use Rattle.typing.specs.declared.cause.Bindings.{Bindings}
 
 -- nothing is bound, for that cause
 abbrev pub blamed : Cause → Bindings
-blamed c = record { blame = Found Alone c; words = 0 }
+blamed c = record { blame = Err (record { within = Alone; cause = c }); words = 0 }
 
 -- the pattern's variant at a place, of the declared variant at another: where both have fields, and any two
 pub record JudgesStruct (s : List ℕ) (at declared : ℕ) (table : List ℕ) (k : ℕ) (r : Bindings) (table' : List ℕ) : Type 0 where

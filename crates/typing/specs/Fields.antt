@@ -1,5 +1,5 @@
 -- What the judging of a pattern's fields promises: for whatever reads there, its answer is the definition's.
-use Rattle.std.specs.Prelude.{ℕ, zero, suc, ◌+◌, ◌<◌, ◌≤◌, ◌≡◌, List, [], Bool, true, false, get_or, take, eqb}
+use Rattle.std.specs.Prelude.{ℕ, zero, suc, ◌+◌, ◌<◌, ◌≤◌, ◌≡◌, List, [], Bool, true, false, get_or, take, eqb, Result, ⊤}
 use Rattle.std.proofs.Math.Option.{Option, none, some}
 use Rattle.reading.specs.Read.{ok, pick}
 use Rattle.reading.specs.Text.{Name, read_name}
@@ -77,7 +77,7 @@ pub record NamesField (s : List ℕ) (at first i : ℕ) (r : Naming) : Type 0 wh
   pub of : (o : Option Name) (n : ℕ) (seen : List Name) → OptionAt read_name s at o n → Known s first i o seen → named_of s r ≡ name_in seen o
 
 -- the pattern at a place, of the declared field by its parts
-pub record FitsField (s : List ℕ) (at : ℕ) (decl : Parts) (r : Blame) : Type 0 where
+pub record FitsField (s : List ℕ) (at : ℕ) (decl : Parts) (r : Result ⊤ Blame) : Type 0 where
   pub of : (p : PatternExpr) (n : ℕ) (t : Ty) (m : ℕ) → read_pattern_expr s at ≡ ok p n → read_ty s decl.under ≡ ok t m → blame_of s r ≡ blame (field (text_at s decl.name)) (pattern_expr_compatible p t)
 
 -- no field follows

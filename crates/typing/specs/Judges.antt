@@ -11,9 +11,8 @@ use Rattle.reading.specs.Formula.{Formula, expr, read_formula}
 use Rattle.typing.specs.Causes.{first_of}
 use Rattle.typing.specs.Env.{Env, given}
 use Rattle.typing.specs.Formulas.{fields_bind, variant_binds, check_pattern_group, type_formula}
-use Rattle.typing.specs.Means.{unfit_of}
+use Rattle.typing.specs.Means.{unfit_of, Fit}
 use Rattle.typing.specs.Entries.{Entered}
-use Rattle.typing.specs.declared.rules.Fit.{Fit}
 
 -- whether a field of a pattern has a name, whether one of so many from a place on has, and whether one of a variant has
 pub record FieldBinds (s : List ℕ) (at : ℕ) (r : Bool) : Type 0 where

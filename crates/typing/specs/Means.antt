@@ -1,5 +1,5 @@
 -- What the code's types, causes and answers stand for, in a document.
-use Rattle.std.specs.Prelude.{ℕ, List, []}
+use Rattle.std.specs.Prelude.{ℕ, List, [], Result, Ok, Err, ⊤}
 use Rattle.std.proofs.Math.Option.{Option, none, some}
 use Rattle.reading.specs.Read.{Read, ok, refused}
 use Rattle.reading.specs.Text.{Name}
@@ -16,11 +16,6 @@ use Rattle.typing.specs.declared.cause.Cause.TheVariants as cause
 use Rattle.typing.specs.declared.cause.Within.{Within}
 use Rattle.typing.specs.declared.cause.Within.TheVariants.{Alone, Field, Arg}
 use Rattle.typing.specs.declared.cause.Blame.{Blame}
-use Rattle.typing.specs.declared.cause.Blame.TheVariants.{Nothing, Found}
-use Rattle.typing.specs.declared.rules.Fit.{Fit}
-use Rattle.typing.specs.declared.rules.Fit.TheVariants.{Fine, Unfit}
-use Rattle.typing.specs.declared.cause.Typed.{Typed}
-use Rattle.typing.specs.declared.cause.Typed.TheVariants.{Is, Fails}
 
 unfoldable pub ty_of : List ℕ → Ty → ExprType
 ty_of s Bool = bool
@@ -75,9 +70,16 @@ pub data Outcome : Type 0 where
   good : ExprType → ℕ → Outcome
   bad : causes.Cause → Outcome
 
+-- the code's: the type and the place after the expression, or the cause; and a cause, if anything is wrong
+abbrev pub Typed : Type 0
+Typed = Result (Ty × ℕ) Cause
+
+abbrev pub Fit : Type 0
+Fit = Result ⊤ Cause
+
 unfoldable pub typed_of : List ℕ → Typed → Outcome
-typed_of s (Is t n) = good (ty_of s t) n
-typed_of s (Fails c) = bad (cause_of s c)
+typed_of s (Ok (t, n)) = good (ty_of s t) n
+typed_of s (Err c) = bad (cause_of s c)
 
 unfoldable pub outcome : ℕ → Answer → Outcome
 outcome next (is t) = good t next
@@ -85,14 +87,14 @@ outcome next (fails c) = bad c
 
 -- what is wrong, if anything
 unfoldable pub unfit_of : List ℕ → Fit → Option causes.Cause
-unfit_of s Fine = none
-unfit_of s (Unfit c) = some (cause_of s c)
+unfit_of s (Ok u) = none
+unfit_of s (Err c) = some (cause_of s c)
 
 unfoldable pub within_of : List ℕ → Within → causes.Within
 within_of s Alone = causes.alone
 within_of s (Field n) = causes.field (text_at s n)
 within_of s (Arg n) = causes.arg (text_at s n)
 
-unfoldable pub blame_of : List ℕ → Blame → Option causes.Blame
-blame_of s Nothing = none
-blame_of s (Found w c) = some (record { within = within_of s w; cause = cause_of s c })
+unfoldable pub blame_of : List ℕ → Result ⊤ Blame → Option causes.Blame
+blame_of s (Ok u) = none
+blame_of s (Err b) = some (record { within = within_of s b.within; cause = cause_of s b.cause })

@@ -4,7 +4,7 @@
 -- is; 2 ^ 40 times the item's next, which is one more than the number of the item that its lane goes on with, or 0 where it ends; and 2 ^ 48 times
 -- a word's number, put aside for it. As many lanes as items are there. Any key gives the right answers. The name of an item stands after its
 -- head, or after its tag.
-use Rattle.std.specs.Prelude.{ℕ, zero, suc, ◌+◌, ◌-◌, ◌*◌, ◌/◌, ◌%◌, ◌^◌, ◌<◌, ◌≤◌, ◌≡◌, List, Bool, true, false, length, get_or, take, eqb}
+use Rattle.std.specs.Prelude.{ℕ, zero, suc, ◌+◌, ◌-◌, ◌*◌, ◌/◌, ◌%◌, ◌^◌, ◌<◌, ◌≤◌, ◌≡◌, List, Bool, true, false, length, get_or, take, eqb, Option as Maybe, Some, None}
 use Rattle.std.proofs.Math.Option.{Option, none, some}
 use Rattle.std.proofs.Math.ListN.{get_elem?}
 use Rattle.reading.specs.Read.{ok, pick}
@@ -20,8 +20,6 @@ use Rattle.typing.specs.Lanes.{print_by, factor, spread}
 use Rattle.typing.specs.Table.{after_item, after_head, after_tag, found}
 use Rattle.typing.specs.Segments.{after_items}
 use Rattle.typing.specs.First.{FoundAt}
-use Rattle.typing.specs.declared.table.Found.{Found}
-use Rattle.typing.specs.declared.table.Found.TheVariants.{At, Nothing}
 
 -- each word is a byte
 abbrev pub Bytes : List ℕ → Type 0
@@ -93,13 +91,13 @@ number_from zero tagged s at x i = none
 number_from (suc k) tagged s at x i = pick (eq_name (text_at s (name_at tagged s at)) x) (some i) (number_from k tagged s (after_item s at) x (suc i))
 
 -- for whatever items are on the roll at word q, r is the number of the first that has the name
-pub record FindsOn (tagged : Bool) (s : List ℕ) (x : Name) (T : List ℕ) (q : ℕ) (r : Found) : Type 0 where
+pub record FindsOn (tagged : Bool) (s : List ℕ) (x : Name) (T : List ℕ) (q : ℕ) (r : Maybe ℕ) : Type 0 where
   pub of : (first n : ℕ) → Rolled tagged s T q first n → r ≡ found (number_from n tagged s first x 0)
 
 -- an item's number, whatever stands in the table: its place stands in it too
-unfoldable pub WithinTable : List ℕ → ℕ → Found → Type 0
-WithinTable T q (At i) = q + 1 + i < length T
-WithinTable T q Nothing = Unit {0}
+unfoldable pub WithinTable : List ℕ → ℕ → Maybe ℕ → Type 0
+WithinTable T q (Some i) = q + 1 + i < length T
+WithinTable T q None = Unit {0}
 
 -- a table after the places of n items from a place on were put behind word q, and the prints of their names by a key behind those
 pub record PutsItems (tagged : Bool) (s : List ℕ) (key first n : ℕ) (T : List ℕ) (q : ℕ) (T' : List ℕ) : Type 0 where
@@ -177,5 +175,5 @@ pub record FillsOutputs (s : List ℕ) (at : ℕ) (T : List ℕ) (T' : List ℕ)
   pub of : Bytes s → (gs : List ConstructorGroup) (n : ℕ) → list_of max_list read_constructor_group s at ≡ ok gs n → OutputsAt s T' gs
 
 -- the first variant of a name in group k, whose variants stand at a place
-pub record FindsVariant (s T : List ℕ) (k variants : ℕ) (w : Name) (r : Found) : Type 0 where
+pub record FindsVariant (s T : List ℕ) (k variants : ℕ) (w : Name) (r : Maybe ℕ) : Type 0 where
   pub of : Bytes s → (gs : List ConstructorGroup) (g : ConstructorGroup) → OutputsAt s T gs → get_elem? gs k ≡ some g → variants ≡ variants_in s T k → FoundAt read_constructor_variant s r (first_called declared_name w g.variants)

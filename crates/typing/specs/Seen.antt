@@ -1,5 +1,5 @@
 -- A guard's equalities in one pass: those seen so far, one of each name, stand in a table as pairs of the place of a name and its value.
-use Rattle.std.specs.Prelude.{ℕ, zero, suc, ◌+◌, ◌*◌, ◌≡◌, List, [], ◌∷◌, ◌++◌, get_or}
+use Rattle.std.specs.Prelude.{ℕ, zero, suc, ◌+◌, ◌*◌, ◌≡◌, List, [], ◌∷◌, ◌++◌, get_or, Option as Maybe, Result, Ok, Err}
 use Rattle.std.proofs.Math.Option.{Option, none, some}
 use Rattle.reading.specs.Read.{ok}
 use Rattle.reading.specs.Expr.{Expr, read_expr}
@@ -10,8 +10,8 @@ use Rattle.typing.specs.Guards as guards
 use Rattle.typing.specs.Guards.{against, contradictory_equalities}
 use Rattle.typing.specs.Equalities.{name_in, listed, equalities_of, equality_of}
 use Rattle.typing.specs.declared.equality.Equality.{Equality}
-use Rattle.typing.specs.declared.seen.Seen.{Seen}
-use Rattle.typing.specs.declared.seen.Seen.TheVariants.{Many, Clash, Full}
+use Rattle.typing.specs.declared.seen.Stop.{Stop}
+use Rattle.typing.specs.declared.seen.Stop.TheVariants.{Clash, Full}
 
 -- an equality by the place of its name
 abbrev pub placed : List ℕ → ℕ → ℕ → guards.Equality
@@ -36,20 +36,23 @@ pub record Adds (s : List ℕ) (n v : ℕ) (table : List ℕ) (k : ℕ) (table' 
   pub room : Room s table' (k + 1) heads links
   pub seen : seen_in s table' (k + 1) ≡ placed s n v ∷ seen_in s table k
 
+-- how many pairs the table has, or why the pass ends early
+abbrev pub Seen : Type 0
+Seen = Result ℕ Stop
+
 -- the table can be used on, with as many pairs
 unfoldable pub Kept : List ℕ → Seen → List ℕ → List ℕ → List ℕ → Type 0
-Kept s (Many m) table heads links = Room s table m heads links
-Kept s (Clash n a b) table heads links = Unit {0}
-Kept s Full table heads links = Unit {0}
+Kept s (Ok m) table heads links = Room s table m heads links
+Kept s (Err e) table heads links = Unit {0}
 
 -- what some equalities leave of the search: it goes on with those in the table, or ends with a clash
 unfoldable pub Leaves : List ℕ → List guards.Equality → List guards.Equality → Seen → List ℕ → Type 0
-Leaves s seen es (Many m) table = (rest : List guards.Equality) → clashing seen (es ++ rest) ≡ clashing (seen_in s table m) rest
-Leaves s seen es (Clash n a b) table = (rest : List guards.Equality) → clashing seen (es ++ rest) ≡ some (record { name = text_at s n; earlier = a; later = b })
-Leaves s seen es Full table = Unit {0}
+Leaves s seen es (Ok m) table = (rest : List guards.Equality) → clashing seen (es ++ rest) ≡ clashing (seen_in s table m) rest
+Leaves s seen es (Err (Clash c)) table = (rest : List guards.Equality) → clashing seen (es ++ rest) ≡ some (record { name = text_at s c.name; earlier = c.earlier; later = c.later })
+Leaves s seen es (Err Full) table = Unit {0}
 
 -- an equality at most, an expression and two of them: right before left
-pub record NotesEquality (s : List ℕ) (q : Equality) (table : List ℕ) (k : ℕ) (r : Seen) (table' heads links : List ℕ) : Type 0 where
+pub record NotesEquality (s : List ℕ) (q : Maybe Equality) (table : List ℕ) (k : ℕ) (r : Seen) (table' heads links : List ℕ) : Type 0 where
   pub kept : Kept s r table' heads links
   pub leaves : Leaves s (seen_in s table k) (listed (equality_of s q)) r table'
 
@@ -63,9 +66,9 @@ pub record NotesTwo (d : ℕ) (s : List ℕ) (at : ℕ) (table : List ℕ) (k : 
 
 -- a guard, where the table has room for its names
 unfoldable pub Answers : List ℕ → Option guards.Clash → Seen → Type 0
-Answers s c (Many m) = c ≡ none
-Answers s c (Clash n a b) = c ≡ some (record { name = text_at s n; earlier = a; later = b })
-Answers s c Full = Unit {0}
+Answers s c (Ok m) = c ≡ none
+Answers s c (Err (Clash x)) = c ≡ some (record { name = text_at s x.name; earlier = x.earlier; later = x.later })
+Answers s c (Err Full) = Unit {0}
 
 pub record OnePass (d : ℕ) (s : List ℕ) (at : ℕ) (r : Seen) : Type 0 where
   pub of : (e : Expr) (n : ℕ) → read_expr d s at ≡ ok e n → Answers s (contradictory_equalities e) r

@@ -3,7 +3,7 @@
 -- times the place of the first, and a byte for each, the lowest for the first: its mark by the key, which is not 0. The word under the enum's name
 -- is then 65536 more than the word at which its segment begins; a smaller word is the place of the list of variants. A document of more than
 -- 65,535 bytes has no segments.
-use Rattle.std.specs.Prelude.{ℕ, zero, suc, ◌+◌, ◌-◌, ◌*◌, ◌/◌, ◌%◌, ◌^◌, ◌<◌, ◌≤◌, ◌≡◌, List, Bool, true, false, length, get_or, take, eqb, ltb}
+use Rattle.std.specs.Prelude.{ℕ, zero, suc, ◌+◌, ◌-◌, ◌*◌, ◌/◌, ◌%◌, ◌^◌, ◌<◌, ◌≤◌, ◌≡◌, List, Bool, true, false, length, get_or, take, eqb, ltb, Option as Maybe, Some, None}
 use Rattle.std.proofs.Math.Option.{Option, none, some}
 use Rattle.reading.specs.Read.{pick}
 use Rattle.reading.specs.Text.{Name}
@@ -12,8 +12,6 @@ use Rattle.typing.specs.Names.{eq_name}
 use Rattle.typing.specs.Lanes.{print_by, factor, spread}
 use Rattle.typing.specs.Table.{after_item, member_from, member_at}
 use Rattle.typing.specs.declared.segments.Packed.{Packed}
-use Rattle.typing.specs.declared.table.Found.{Found}
-use Rattle.typing.specs.declared.table.Found.TheVariants.{At, Nothing}
 
 -- the mark of a name by a key: a byte, not 0
 unfoldable pub mark_by : ℕ → Name → ℕ
@@ -83,9 +81,9 @@ pub record FillsWords (key : ℕ) (s : List ℕ) (first many : ℕ) (T : List �
   pub has : r ≡ true → (n : Name) → among ((many + 5) / 6) s n (mark_by key n) T' q ≡ member_from many s first n
 
 -- the same by one of 8 keys, if all were
-unfoldable pub FillsKeyed : List ℕ → ℕ → ℕ → List ℕ → ℕ → Found → List ℕ → Type 0
-FillsKeyed s first many T q (At key) T' = (key < 8) × FillsWords key s first many T q true T'
-FillsKeyed s first many T q Nothing T' = (length T' ≡ length T) × (take q T' ≡ take q T)
+unfoldable pub FillsKeyed : List ℕ → ℕ → ℕ → List ℕ → ℕ → Maybe ℕ → List ℕ → Type 0
+FillsKeyed s first many T q (Some key) T' = (key < 8) × FillsWords key s first many T q true T'
+FillsKeyed s first many T q None T' = (length T' ≡ length T) × (take q T' ≡ take q T)
 
 -- a word under a name says what variants the list at a place has; a segment of it lies between two words
 pub record Under (s T : List ℕ) (w low high list : ℕ) : Type 0 where

@@ -1,6 +1,6 @@
 -- Tables of places: of names and what is declared under each, as pairs of places in the document, one pair after the other.
 -- A later pair of one name replaces the earlier.
-use Rattle.std.specs.Prelude.{ℕ, zero, suc, ◌+◌, ◌*◌, ◌/◌, ◌<◌, ◌≤◌, ◌≡◌, List, [], ◌∷◌, Bool, true, false, length, get_or, eqb}
+use Rattle.std.specs.Prelude.{ℕ, zero, suc, ◌+◌, ◌*◌, ◌/◌, ◌<◌, ◌≤◌, ◌≡◌, List, [], ◌∷◌, Bool, true, false, length, get_or, eqb, Option as Maybe, Some, None}
 use Rattle.std.proofs.Math.Option.{Option, none, some}
 use Rattle.std.proofs.lemmas.List.Edits.{sets}
 use Rattle.reading.specs.Read.{Read, ok, refused, pick}
@@ -12,8 +12,6 @@ use Rattle.reading.specs.Skip.{skip_items, text_at}
 use Rattle.reading.specs.declared.item.Tag.{Tag}
 use Rattle.typing.specs.Types.{ExprType, bool, bit, enum}
 use Rattle.typing.specs.Names.{eq_name}
-use Rattle.typing.specs.declared.table.Found.{Found}
-use Rattle.typing.specs.declared.table.Found.TheVariants.{At, Nothing}
 
 -- the place after the item at a place
 unfoldable pub place_after : {A : Type 0} → Read A → ℕ
@@ -34,14 +32,14 @@ pub record Ended (s : List ℕ) (at end : ℕ) : Type 0 where
   pub room : end ≤ length s
 
 -- where it ends, if that is told
-unfoldable pub Stops : List ℕ → ℕ → Found → Type 0
-Stops s at (At end) = Ended s at end
-Stops s at Nothing = Unit {0}
+unfoldable pub Stops : List ℕ → ℕ → Maybe ℕ → Type 0
+Stops s at (Some end) = Ended s at end
+Stops s at None = Unit {0}
 
 -- the same of a text that is another than the name
-unfoldable pub Differs : List ℕ → ℕ → Name → Found → Type 0
-Differs s at w (At end) = Ended s at end × (eq_name (text_at s at) w ≡ false)
-Differs s at w Nothing = Unit {0}
+unfoldable pub Differs : List ℕ → ℕ → Name → Maybe ℕ → Type 0
+Differs s at w (Some end) = Ended s at end × (eq_name (text_at s at) w ≡ false)
+Differs s at w None = Unit {0}
 
 -- the place after the head of the record at a place
 abbrev pub after_head : List ℕ → ℕ → ℕ
@@ -79,9 +77,9 @@ find_first s n table (suc k) =
 abbrev pub last_in : List ℕ → Name → List ℕ → Option ℕ
 last_in s n pairs = find_first s n pairs (length pairs / 2)
 
-unfoldable pub found : Option ℕ → Found
-found none = Nothing
-found (some at) = At at
+unfoldable pub found : Option ℕ → Maybe ℕ
+found none = None
+found (some at) = Some at
 
 -- the declared type at a place; bool where none stands there
 unfoldable pub width_type : Read ℕ → ExprType

@@ -6,8 +6,7 @@ use Rattle.reading.specs.Text.{Name}
 use Rattle.reading.specs.Expr.{Expr, unary, binary, unary_ops, bin_ops, read_path, read_expr}
 use Rattle.typing.specs.Env.{Env}
 use Rattle.typing.specs.Typing.{resolve_path, type_expr}
-use Rattle.typing.specs.Means.{typed_of, outcome}
-use Rattle.typing.specs.declared.cause.Typed.{Typed}
+use Rattle.typing.specs.Means.{typed_of, outcome, Typed}
 
 -- a path at a place, in an expression that ends at next
 pub record Resolves (env : Env) (s : List ℕ) (at next : ℕ) (r : Typed) : Type 0 where

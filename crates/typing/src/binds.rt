@@ -5,7 +5,6 @@ ghost use Rattle.typing.specs.Judges.{FieldBinds, FieldsBind, VariantBinds, Chec
 use crate::cause::Cause;
 use crate::entries::fields_at;
 use crate::fill::after_head;
-use crate::rules::Fit;
 use crate::table::after;
 
 // Whether null stands at a place.
@@ -34,13 +33,11 @@ pub(crate) fn fields_bind(doc: &[u8], at: usize, fields: u64) -> bool
     ensures { FieldsBind doc.now at fields result }
 {
     let mut k = at;
-    let mut left = fields;
-    while 0 < left {
+    for _ in 0..fields {
         if field_binds(doc, k) {
             return true;
         }
         k = after(doc, k);
-        left -= 1;
     }
     false
 }
@@ -57,13 +54,13 @@ pub(crate) fn variant_binds(doc: &[u8], at: usize) -> bool
 }
 
 // What is wrong with the pattern at a place in a formula, if anything.
-pub(crate) fn check_pattern_group(doc: &[u8], at: usize) -> Fit
+pub(crate) fn check_pattern_group(doc: &[u8], at: usize) -> Result<(), Cause>
     ensures { ChecksGroup doc.now at result }
 {
     let group = after_head(doc, at);
     let variant = after(doc, group);
     if variant_binds(doc, variant) {
-        return Fit::Unfit(Cause::BindingInFormula);
+        return Err(Cause::BindingInFormula);
     }
-    Fit::Fine
+    Ok(())
 }

@@ -1,5 +1,5 @@
 // Tables of blocks: names and what is declared under each, as pairs of places on lanes. A block has 829 words: 255 pairs, 63 heads of
-// lanes, a key, and 255 links.
+// lanes, a key, and 255 links. There is no heap: a table is words that the caller lends, and a block is found by its first word.
 ghost use Rattle.std.specs.Prelude.{◌≡◌, ◌+◌, ◌*◌, ◌/◌, ◌%◌, ◌^◌, ◌<◌, ◌≤◌, length};
 ghost use Rattle.typing.specs.Table.{found, pairs_at};
 ghost use Rattle.typing.specs.Lanes.{print, spread};
@@ -8,7 +8,6 @@ ghost use Rattle.typing.specs.Blocks.{block_lane, key_in, BlockWoven, link_from,
 use crate::fill::{fill_table, store};
 use crate::lanes::{factor, print_by, print_bytes, spread};
 use crate::names::{same, same_name};
-use crate::table::Found;
 use reading::text_at;
 
 // The lane of a print.
@@ -46,58 +45,50 @@ fn find_in_block<'a>(
     o: usize,
     lane: usize,
     name: &'a [u8],
-) -> Found
+) -> Option<usize>
     requires o_in_bounds { o + 829 ≤ length table.now }
     requires lane_bound { lane < 63 }
     requires lane_value { lane ≡ block_lane (key_in table.now o) name.now }
     ensures { result ≡ found (block_find doc.now name.now table.now o) }
 {
     let mut p = table[o + 510 + lane];
-    let mut left: usize = 255;
-    while 0 < left {
+    for _ in 0..255usize {
         if p == 0 {
-            return Found::Nothing;
+            return None;
         }
         if 255 < p {
-            return Found::Nothing;
+            return None;
         }
         let i = p - 1;
         if same(text_at(doc, table[o + 2 * i]), name) {
-            return Found::At(table[o + 2 * i + 1]);
+            return Some(table[o + 2 * i + 1]);
         }
         p = table[o + 574 + i];
-        left -= 1;
     }
-    Found::Nothing
+    None
 }
 
 // What stands under a name in a table of blocks, by the last that has it.
-pub fn find<'a>(doc: &'a [u8], table: &'a [usize], name: &'a [u8]) -> Found
+pub fn find<'a>(doc: &'a [u8], table: &'a [usize], name: &'a [u8]) -> Option<usize>
     ensures { result ≡ found (find_in doc.now name.now table.now) }
 {
     let p = print_bytes(name, 0);
-    let mut b = table.len() / 829;
-    while 0 < b {
-        b -= 1;
+    for b in (0..table.len() / 829).rev() {
         let o = 829 * b;
         let lane = lane_in_block(name, p, table[o + 573]);
-        let f = find_in_block(doc, table, o, lane, name);
-        match f {
-            Found::At(place) => {
-                return Found::At(place);
-            }
-            Found::Nothing => {}
+        if let Some(place) = find_in_block(doc, table, o, lane, name) {
+            return Some(place);
         }
     }
-    Found::Nothing
+    None
 }
 
 // The same in a table of enums, which is a block and other words behind it.
-pub(crate) fn find_enum<'a>(doc: &'a [u8], table: &'a [usize], name: &'a [u8]) -> Found
+pub(crate) fn find_enum<'a>(doc: &'a [u8], table: &'a [usize], name: &'a [u8]) -> Option<usize>
     ensures { result ≡ found (enum_find doc.now name.now table.now) }
 {
     if table.len() < 829 {
-        return Found::Nothing;
+        return None;
     }
     let lane = block_lane(name, table[573]);
     find_in_block(doc, table, 0, lane, name)
@@ -108,11 +99,7 @@ fn clear_lanes(table: &mut [usize], o: usize, key: usize)
     requires { o + 829 ≤ length table.old }
     ensures { Clears table.old o 63 table.new }
 {
-    let mut h: usize = 0;
-    while h < 63 {
-        table[o + 510 + h] = 0;
-        h += 1;
-    }
+    table[o + 510..o + 573].fill(0);
     table[o + 573] = key;
 }
 
@@ -153,10 +140,8 @@ fn weave_by(doc: &[u8], table: &mut [usize], o: usize, n: usize, key: usize)
     ensures { Weaves doc.now table.old o n table.new }
 {
     clear_lanes(table, o, key);
-    let mut i: usize = 0;
-    while i < n {
+    for i in 0..n {
         weave_pair(doc, table, o, i);
-        i += 1;
     }
 }
 
@@ -170,14 +155,12 @@ fn crowded(table: &[usize], o: usize, n: usize) -> bool
         return false;
     }
     let mut depths = [0u8; 256];
-    let mut i: usize = 0;
-    while i < n {
+    for i in 0..n {
         let d = depths[table[o + 574 + i] % 256];
         if 11 < d {
             return true;
         }
         depths[i + 1] = d + 1;
-        i += 1;
     }
     false
 }
@@ -188,13 +171,11 @@ pub fn weave(doc: &[u8], table: &mut [usize], o: usize, n: usize)
     requires n_bound { n ≤ 255 }
     ensures { Weaves doc.now table.old o n table.new }
 {
-    let mut key: usize = 0;
-    weave_by(doc, table, o, n, key);
-    while key < 7 {
+    weave_by(doc, table, o, n, 0);
+    for key in 1..8 {
         if !crowded(table, o, n) {
             return;
         }
-        key += 1;
         weave_by(doc, table, o, n, key);
     }
 }

@@ -2,7 +2,7 @@
 use crate::ty::Ty;
 
 // What has to be a bool.
-#[derive(Clone, Copy)]
+#[derive(Clone, Copy, Debug, PartialEq, Eq)]
 pub enum What {
     Operand,
     Left,
@@ -12,7 +12,7 @@ pub enum What {
 }
 
 // A name is the place where it stands in the document, and a path the place of its list.
-#[derive(Clone, Copy)]
+#[derive(Clone, Copy, Debug, PartialEq, Eq)]
 pub enum Cause {
     // 1: the group.
     UnknownEventGroup(usize),
@@ -79,30 +79,26 @@ pub enum Cause {
 }
 
 // An expression's type and the place after it; or why it has none.
-#[derive(Clone, Copy)]
-pub enum Typed {
-    Is(Ty, usize),
-    Fails(Cause),
-}
+pub type Typed = Result<(Ty, usize), Cause>;
 
 // The field or argument that a cause is about: the place of its name; or none of them.
-#[derive(Clone, Copy)]
+#[derive(Clone, Copy, Debug, PartialEq, Eq)]
 pub enum Within {
     Alone,
     Field(usize),
     Arg(usize),
 }
 
-// What is wrong with a pattern or an output, if anything.
-#[derive(Clone, Copy)]
-pub enum Blame {
-    Nothing,
-    Found(Within, Cause),
+// What is wrong with a pattern or an output, and in what.
+#[derive(Clone, Copy, Debug, PartialEq, Eq)]
+pub struct Blame {
+    pub within: Within,
+    pub cause: Cause,
 }
 
-// What is wrong with a pattern, and how many words of a table its bindings take.
-#[derive(Clone, Copy)]
+// What is wrong with a pattern, if anything, and how many words of a table its bindings take.
+#[derive(Clone, Copy, Debug, PartialEq, Eq)]
 pub struct Bindings {
-    pub blame: Blame,
+    pub blame: Result<(), Blame>,
     pub words: usize,
 }

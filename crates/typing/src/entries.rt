@@ -5,10 +5,10 @@ ghost use Rattle.reading.specs.Item.{read_count};
 ghost use Rattle.typing.specs.Entries.{opened, case_at, FieldsAt};
 
 use crate::table::after;
-use reading::{Answer, Cursor, Tagged};
+use reading::{Cursor, Refusal};
 
 // How many entries a list has, and where the first of them stands.
-#[derive(Clone, Copy)]
+#[derive(Clone, Copy, Debug, PartialEq, Eq)]
 pub struct Entries {
     pub many: u64,
     pub first: usize,
@@ -22,11 +22,11 @@ pub(crate) fn entries_at(doc: &[u8], at: usize) -> Entries
     let c = Cursor { at };
     let r = c.count(doc, 255);
     match r {
-        Answer::Got(many, next) => {
+        Ok((many, next)) => {
             let first = next.at;
             Entries { many, first }
         }
-        Answer::Refused(_, first) => Entries { many: 0, first },
+        Err(Refusal { place: first, .. }) => Entries { many: 0, first },
     }
 }
 
@@ -37,8 +37,8 @@ pub(crate) fn has_case(doc: &[u8], at: usize, case: u64) -> bool
     let c = Cursor { at };
     let t = c.tag(doc);
     match t {
-        Tagged::Case(tag, _) => tag.case == case,
-        Tagged::Refused(_, _) => false,
+        Ok((tag, _)) => tag.case == case,
+        Err(_) => false,
     }
 }
 
@@ -49,7 +49,7 @@ pub(crate) fn fields_at(doc: &[u8], at: usize) -> Entries
 {
     let c = Cursor { at };
     let t = c.tag(doc);
-    let Tagged::Case(tag, name) = t else {
+    let Ok((tag, name)) = t else {
         return Entries { many: 0, first: at };
     };
     if tag.case == 1 {

@@ -6,43 +6,36 @@ ghost use Rattle.typing.specs.Equalities.{paired, listed, name_in, side_of, equa
 use crate::expr::after_expr;
 use crate::names::same;
 use crate::side::{Side, side_at};
-use reading::{Answer, Cursor, Tagged, text_at};
+use reading::{Cursor, text_at};
 
-// The place of a name and the value that it is said to equal, if any.
-#[derive(Clone, Copy)]
-pub enum Equality {
-    Nothing,
-    Is(usize, u64),
+// The place of a name and the value that it is said to equal.
+#[derive(Clone, Copy, Debug, PartialEq, Eq)]
+pub struct Equality {
+    pub name: usize,
+    pub value: u64,
 }
 
 // The place of the two operands of &&, or what any other expression says.
-#[derive(Clone, Copy)]
+#[derive(Clone, Copy, Debug, PartialEq, Eq)]
 pub enum Conjunct {
     And(usize),
-    One(Equality),
+    One(Option<Equality>),
 }
 
 // The equality of two sides, either way round.
-pub(crate) fn paired(doc: &[u8], a: Side, b: Side) -> Equality
+#[tactic(auto, unfolding(crate::specs::Equalities::paired, crate::specs::Equalities::side_of, crate::specs::Equalities::equality_of))]
+pub(crate) fn paired(doc: &[u8], a: Side, b: Side) -> Option<Equality>
     ensures { equality_of doc.now result ≡ paired (side_of doc.now a) (side_of doc.now b) }
 {
-    match a {
-        Side::Value(v) => match b {
-            Side::Value(_) => Equality::Nothing,
-            Side::Name(n) => Equality::Is(n, v),
-            Side::Other => Equality::Nothing,
-        },
-        Side::Name(n) => match b {
-            Side::Value(v) => Equality::Is(n, v),
-            Side::Name(_) => Equality::Nothing,
-            Side::Other => Equality::Nothing,
-        },
-        Side::Other => Equality::Nothing,
+    match (a, b) {
+        (Side::Value(value), Side::Name(name)) => Some(Equality { name, value }),
+        (Side::Name(name), Side::Value(value)) => Some(Equality { name, value }),
+        _ => None,
     }
 }
 
 // The equality of the two operands at a place.
-pub(crate) fn equality_at(doc: &[u8], at: usize, depth: u64) -> Equality
+pub(crate) fn equality_at(doc: &[u8], at: usize, depth: u64) -> Option<Equality>
     ensures { EqualityAt depth doc.now at result }
 {
     let a = side_at(doc, at, depth);
@@ -57,8 +50,8 @@ pub(crate) fn operator_at(doc: &[u8], at: usize, depth: u64) -> Conjunct
 {
     let c = Cursor { at };
     let o = c.case_number(doc, 16);
-    let Answer::Got(op, left) = o else {
-        return Conjunct::One(Equality::Nothing);
+    let Ok((op, left)) = o else {
+        return Conjunct::One(None);
     };
     let k = left.at;
     if op == 15 {
@@ -67,7 +60,7 @@ pub(crate) fn operator_at(doc: &[u8], at: usize, depth: u64) -> Conjunct
     if op == 5 {
         return Conjunct::One(equality_at(doc, k, depth));
     }
-    Conjunct::One(Equality::Nothing)
+    Conjunct::One(None)
 }
 
 // What the expression at a place says.
@@ -75,39 +68,42 @@ pub(crate) fn conjunct_at(doc: &[u8], at: usize, depth: u64) -> Conjunct
     ensures { ConjunctAt depth doc.now at result }
 {
     if depth == 0 {
-        return Conjunct::One(Equality::Nothing);
+        return Conjunct::One(None);
     }
     let c = Cursor { at };
     let t = c.tag(doc);
-    let Tagged::Case(tag, fields) = t else {
-        return Conjunct::One(Equality::Nothing);
+    let Ok((tag, fields)) = t else {
+        return Conjunct::One(None);
     };
     if tag.case != 4 {
-        return Conjunct::One(Equality::Nothing);
+        return Conjunct::One(None);
     }
     operator_at(doc, fields.at, depth - 1)
 }
 
 // The equality, where it is of the name.
-pub(crate) fn called<'a>(doc: &'a [u8], q: Equality, name: &'a [u8]) -> Equality
+pub(crate) fn called<'a>(doc: &'a [u8], q: Option<Equality>, name: &'a [u8]) -> Option<Equality>
     ensures { equality_of doc.now result ≡ first_called name_in name.now (listed (equality_of doc.now q)) }
 {
-    let Equality::Is(n, v) = q else {
-        return Equality::Nothing;
-    };
-    if same(text_at(doc, n), name) {
-        return Equality::Is(n, v);
+    let e = q?;
+    if same(text_at(doc, e.name), name) {
+        return q;
     }
-    Equality::Nothing
+    None
 }
 
 // The first equality of a name in the expression at a place.
 #[cycle(first_equality_first_of_two)]
-pub(crate) fn first_equality<'a>(doc: &'a [u8], at: usize, depth: u64, name: &'a [u8]) -> Equality
+pub(crate) fn first_equality<'a>(
+    doc: &'a [u8],
+    at: usize,
+    depth: u64,
+    name: &'a [u8],
+) -> Option<Equality>
     ensures { FirstEquality depth doc.now at name.now result }
 {
     if depth == 0 {
-        return Equality::Nothing;
+        return None;
     }
     let c = conjunct_at(doc, at, depth);
     match c {
@@ -118,12 +114,12 @@ pub(crate) fn first_equality<'a>(doc: &'a [u8], at: usize, depth: u64, name: &'a
 
 // The same in the two operands at a place: right goes first.
 #[cycle(first_equality_first_of_two)]
-fn first_of_two<'a>(doc: &'a [u8], at: usize, depth: u64, name: &'a [u8]) -> Equality
+fn first_of_two<'a>(doc: &'a [u8], at: usize, depth: u64, name: &'a [u8]) -> Option<Equality>
     ensures { FirstOfTwo depth doc.now at name.now result }
 {
     let right = after_expr(doc, at, depth);
     let r = first_equality(doc, right, depth, name);
-    let Equality::Nothing = r else {
+    let None = r else {
         return r;
     };
     first_equality(doc, at, depth, name)

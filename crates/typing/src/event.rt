@@ -9,7 +9,7 @@ use crate::entries::{fields_at, has_case};
 use crate::field::judge_fields;
 use crate::fill::{after_head, after_tag};
 use crate::first::{first_variant, first_variants};
-use crate::table::{Found, after};
+use crate::table::after;
 use reading::text_at;
 
 // Nothing is bound, for that cause.
@@ -17,7 +17,10 @@ fn alone(cause: Cause) -> Bindings
     ensures { result ≡ blamed cause }
 {
     Bindings {
-        blame: Blame::Found(Within::Alone, cause),
+        blame: Err(Blame {
+            within: Within::Alone,
+            cause,
+        }),
         words: 0,
     }
 }
@@ -53,7 +56,7 @@ fn judge_variant(doc: &[u8], at: usize, declared: usize, table: &mut [usize], k:
         return alone(Cause::FieldsWithout(after_tag(doc, at)));
     }
     Bindings {
-        blame: Blame::Nothing,
+        blame: Ok(()),
         words: 0,
     }
 }
@@ -72,7 +75,7 @@ fn judge_group(
 {
     let variant = after_tag(doc, at);
     let f = first_variant(doc, variants, text_at(doc, variant));
-    let Found::At(declared) = f else {
+    let Some(declared) = f else {
         return alone(Cause::UnknownEventVariant(variant, name));
     };
     judge_variant(doc, at, declared, table, k)
@@ -92,13 +95,13 @@ pub fn validate_event_pattern<'a>(
 {
     let name = after_head(doc, at);
     let f = first_variants(doc, events, text_at(doc, name));
-    let Found::At(variants) = f else {
+    let Some(variants) = f else {
         return alone(Cause::UnknownEventGroup(name));
     };
     let variant = after(doc, name);
     if null_at(doc, variant) {
         return Bindings {
-            blame: Blame::Nothing,
+            blame: Ok(()),
             words: 0,
         };
     }

@@ -10,7 +10,7 @@ use crate::quick::{code_of, quick_type};
 use crate::rules::{binary_type, unary_type};
 use crate::table::{after, after_any};
 use crate::ty::{Ty, is_bool};
-use reading::{Answer, Cursor, Tagged};
+use reading::Cursor;
 
 // The place after the expression at a place.
 pub fn after_expr(doc: &[u8], at: usize, depth: u64) -> usize
@@ -31,22 +31,22 @@ pub fn type_expr<'a>(
     ensures { Types (env_at doc.now names.now enums.now) depth doc.now at result }
 {
     if depth == 0 {
-        return Typed::Fails(Cause::EmptyPath);
+        return Err(Cause::EmptyPath);
     }
     let c = Cursor { at };
     let t = c.tag(doc);
-    let Tagged::Case(tag, fields) = t else {
-        return Typed::Fails(Cause::EmptyPath);
+    let Ok((tag, fields)) = t else {
+        return Err(Cause::EmptyPath);
     };
     let case = tag.case;
     let k = fields.at;
     match case {
-        0 => Typed::Is(Ty::IntLit, after(doc, k)),
-        1 => Typed::Is(Ty::Bool, after(doc, k)),
+        0 => Ok((Ty::IntLit, after(doc, k))),
+        1 => Ok((Ty::Bool, after(doc, k))),
         2 => resolve_path(doc, k, after_path(doc, k), names, enums),
         3 => type_unary(doc, k, depth - 1, names, enums),
         4 => type_binary(doc, k, depth - 1, names, enums),
-        5..=u64::MAX => Typed::Fails(Cause::EmptyPath),
+        _ => Err(Cause::EmptyPath),
     }
 }
 
@@ -63,17 +63,12 @@ pub(crate) fn type_unary<'a>(
 {
     let c = Cursor { at };
     let o = c.case_number(doc, 3);
-    let Answer::Got(op, operand) = o else {
-        return Typed::Fails(Cause::EmptyPath);
+    let Ok((op, operand)) = o else {
+        return Err(Cause::EmptyPath);
     };
-    let t = type_expr(doc, operand.at, depth, names, enums);
-    let Typed::Is(ty, next) = t else {
-        return t;
-    };
-    if op == 0 {
-        if is_bool(doc, ty) {
-            return Typed::Is(Ty::Bool, next);
-        }
+    let (ty, next) = type_expr(doc, operand.at, depth, names, enums)?;
+    if op == 0 && is_bool(doc, ty) {
+        return Ok((Ty::Bool, next));
     }
     unary_type(doc, op, ty, next)
 }
@@ -91,25 +86,19 @@ pub(crate) fn type_binary<'a>(
 {
     let c = Cursor { at };
     let o = c.case_number(doc, 16);
-    let Answer::Got(op, left) = o else {
-        return Typed::Fails(Cause::EmptyPath);
+    let Ok((op, left)) = o else {
+        return Err(Cause::EmptyPath);
     };
-    let l = type_expr(doc, left.at, depth, names, enums);
-    let Typed::Is(lt, right) = l else {
-        return l;
-    };
+    let (lt, right) = type_expr(doc, left.at, depth, names, enums)?;
     let a = code_of(doc, lt);
-    let r = type_expr(doc, right, depth, names, enums);
-    let Typed::Is(rt, next) = r else {
-        return r;
-    };
+    let (rt, next) = type_expr(doc, right, depth, names, enums)?;
     let b = code_of(doc, rt);
     let q = quick_type(op, a, b);
     if q == 0 {
-        return Typed::Is(Ty::Bool, next);
+        return Ok((Ty::Bool, next));
     }
     if 2 < q {
-        return Typed::Is(Ty::Bit((q - 3) as u32), next);
+        return Ok((Ty::Bit((q - 3) as u32), next));
     }
     binary_type(doc, op, lt, rt, next)
 }

@@ -11,12 +11,11 @@ use crate::fill::{after_head, store};
 use crate::lanes::{lane_add, lane_find};
 use crate::names::same;
 use crate::pattern::pattern_expr_compatible;
-use crate::rules::Fit;
-use crate::table::{Found, after, after_case};
+use crate::table::{after, after_case};
 use reading::text_at;
 
 // The name of a pattern's field, by its place: none, one that an earlier field has, or a new one.
-#[derive(Clone, Copy)]
+#[derive(Clone, Copy, Debug, PartialEq, Eq)]
 pub enum Naming {
     Unnamed,
     Again(usize),
@@ -24,7 +23,7 @@ pub enum Naming {
 }
 
 // Where the two fields of a record stand: a name, and what is under it.
-#[derive(Clone, Copy)]
+#[derive(Clone, Copy, Debug, PartialEq, Eq)]
 pub struct Parts {
     pub name: usize,
     pub under: usize,
@@ -55,13 +54,11 @@ fn named_from<'a>(doc: &'a [u8], at: usize, fields: u8, name: &'a [u8]) -> bool
     ensures { result ≡ named_from fields doc.now at name.now }
 {
     let mut k = at;
-    let mut left = fields;
-    while 0 < left {
+    for _ in 0..fields {
         if field_named(doc, k, name) {
             return true;
         }
         k = after(doc, k);
-        left -= 1;
     }
     false
 }
@@ -80,13 +77,16 @@ fn field_name(doc: &[u8], name: usize, first: usize, passed: u8) -> Naming
 }
 
 // What is wrong with the pattern at a place, of the declared field by its parts, if anything.
-fn field_fits(doc: &[u8], pattern: usize, decl: Parts) -> Blame
+fn field_fits(doc: &[u8], pattern: usize, decl: Parts) -> Result<(), Blame>
     ensures { FitsField doc.now pattern decl result }
 {
     let fit = pattern_expr_compatible(doc, pattern, decl.under);
     match fit {
-        Fit::Fine => Blame::Nothing,
-        Fit::Unfit(cause) => Blame::Found(Within::Field(decl.name), cause),
+        Ok(()) => Ok(()),
+        Err(cause) => Err(Blame {
+            within: Within::Field(decl.name),
+            cause,
+        }),
     }
 }
 
@@ -126,7 +126,10 @@ fn judge_field(
             words: 0,
         },
         Naming::Again(name) => Bindings {
-            blame: Blame::Found(Within::Alone, Cause::DuplicateBinding(name)),
+            blame: Err(Blame {
+                within: Within::Alone,
+                cause: Cause::DuplicateBinding(name),
+            }),
             words: 0,
         },
         Naming::Fresh(name) => {
@@ -157,8 +160,8 @@ fn named_among<'a>(
     }
     let f = lane_find(doc, names, m, heads, links, text_at(doc, name));
     match f {
-        Found::At(_) => true,
-        Found::Nothing => false,
+        Some(_) => true,
+        None => false,
     }
 }
 
@@ -194,16 +197,14 @@ fn apart_by_lanes(doc: &[u8], at: usize, count: u8) -> u8
     let mut links = [0u16; 255];
     let mut m: usize = 0;
     let mut k = at;
-    let mut i: u8 = 0;
-    while i < count {
+    for i in 0..count {
         if named_among(doc, k, &names, m, &heads, &links) {
             return i;
         }
         m = put_name(doc, k, &mut names, m, &mut heads, &mut links);
         k = after(doc, k);
-        i += 1;
     }
-    i
+    count
 }
 
 // The same of a long pattern; in a short one none is counted, since a search there is short.
@@ -241,24 +242,22 @@ pub(crate) fn judge_fields(
     let apart = fields_apart(doc, at, count);
     let mut p = at;
     let mut f = fields;
-    let mut i: u8 = 0;
     let mut j: usize = 0;
-    while i < count {
+    for i in 0..count {
         let own = parts_at(doc, p);
         let decl = parts_at(doc, f);
         let passed = searched(i, apart);
         let r = judge_field(doc, own, decl, at, passed, table, k, j);
         j += r.words;
         let blame = r.blame;
-        let Blame::Nothing = blame else {
+        let Ok(()) = blame else {
             return Bindings { blame, words: j };
         };
         p = after_case(doc, own.under);
         f = after_case(doc, decl.under);
-        i += 1;
     }
     Bindings {
-        blame: Blame::Nothing,
+        blame: Ok(()),
         words: j,
     }
 }

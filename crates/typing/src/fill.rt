@@ -4,7 +4,7 @@ ghost use Rattle.typing.specs.Table.{after_head, after_tag, Past, pairs_at, Fill
 
 use crate::entries::entries_at;
 use crate::table::after;
-use reading::{Answer, Cursor, Tagged};
+use reading::{Cursor, Refusal};
 
 // A word of a table; 0 past its end.
 pub fn word(table: &[usize], j: usize) -> usize
@@ -32,8 +32,8 @@ pub fn after_head(doc: &[u8], at: usize) -> usize
     let c = Cursor { at };
     let r = c.kind(doc, 4);
     match r {
-        Answer::Got(_, next) => next.at,
-        Answer::Refused(_, place) => place,
+        Ok((_, next)) => next.at,
+        Err(Refusal { place, .. }) => place,
     }
 }
 
@@ -45,15 +45,13 @@ pub fn fill_table(doc: &[u8], at: usize, table: &mut [usize]) -> usize
     let e = entries_at(doc, at);
     let mut k = e.first;
     let mut j: usize = 0;
-    let mut left = e.many;
-    while 0 < left {
+    for _ in 0..e.many {
         let name = after_head(doc, k);
         store(table, j, name);
         let under = after(doc, name);
         store(table, j + 1, under);
         k = after(doc, k);
         j += 2;
-        left -= 1;
     }
     j
 }
@@ -65,7 +63,7 @@ pub fn after_tag(doc: &[u8], at: usize) -> usize
     let c = Cursor { at };
     let r = c.tag(doc);
     match r {
-        Tagged::Case(_, next) => next.at,
-        Tagged::Refused(_, place) => place,
+        Ok((_, next)) => next.at,
+        Err(Refusal { place, .. }) => place,
     }
 }

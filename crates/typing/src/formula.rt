@@ -5,10 +5,10 @@ ghost use Rattle.typing.specs.Tells.{Ends};
 ghost use Rattle.typing.specs.Shape.{kind_of, Bounds, BoundsAlways, BoundsSometime, BoundsTwo};
 
 use crate::table::after_any;
-use reading::{Answer, Cursor, Tagged};
+use reading::Cursor;
 
 // What stands in a formula: a pattern, an expression, one formula, a bound and a formula, or two formulas.
-#[derive(Clone, Copy)]
+#[derive(Clone, Copy, Debug, PartialEq, Eq)]
 pub enum Kind {
     Input,
     Output,
@@ -21,6 +21,7 @@ pub enum Kind {
 }
 
 // The case of a formula, by its number in ir.rs.
+#[tactic(auto, unfolding(crate::specs::Shape::kind_of))]
 pub(crate) fn kind_of(case: u64) -> Kind
     ensures { result ≡ kind_of case }
 {
@@ -28,17 +29,11 @@ pub(crate) fn kind_of(case: u64) -> Kind
         0 => Kind::Input,
         1 => Kind::Output,
         2 => Kind::Expression,
-        3 => Kind::One,
-        4 => Kind::Two,
-        5 => Kind::Two,
-        6 => Kind::Two,
-        7 => Kind::One,
-        8 => Kind::One,
+        3 | 7 | 8 | 11 => Kind::One,
+        4 | 5 | 6 | 12 => Kind::Two,
         9 => Kind::Always,
         10 => Kind::Sometime,
-        11 => Kind::One,
-        12 => Kind::Two,
-        13..=u64::MAX => Kind::Unknown,
+        _ => Kind::Unknown,
     }
 }
 
@@ -59,7 +54,7 @@ pub fn bounded_always_error(doc: &[u8], at: usize, depth: u64) -> bool
     }
     let c = Cursor { at };
     let t = c.tag(doc);
-    let Tagged::Case(tag, fields) = t else {
+    let Ok((tag, fields)) = t else {
         return false;
     };
     let kind = kind_of(tag.case);
@@ -82,8 +77,8 @@ fn always_error(doc: &[u8], at: usize, depth: u64) -> bool
     ensures { BoundsAlways depth doc.now at result }
 {
     let c = Cursor { at };
-    let b = c.number(doc, 18446744073709551615);
-    let Answer::Got(bound, inner) = b else {
+    let b = c.number(doc, u64::MAX);
+    let Ok((bound, inner)) = b else {
         return false;
     };
     if bound < 1 {
@@ -98,8 +93,8 @@ fn sometime_error(doc: &[u8], at: usize, depth: u64) -> bool
     ensures { BoundsSometime depth doc.now at result }
 {
     let c = Cursor { at };
-    let b = c.number(doc, 18446744073709551615);
-    let Answer::Got(_, inner) = b else {
+    let b = c.number(doc, u64::MAX);
+    let Ok((_, inner)) = b else {
         return false;
     };
     bounded_always_error(doc, inner.at, depth)

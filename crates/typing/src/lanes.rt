@@ -1,10 +1,10 @@
 // Lanes of a table's names, by their prints and a key, so that a name is looked for only among those of its lane.
+// There is no heap: the caller lends the table, the heads and the links, and how many pairs are in use stands beside them.
 ghost use Rattle.std.specs.Prelude.{◌≡◌, ◌+◌, ◌*◌, ◌%◌, ◌^◌, ◌<◌, ◌≤◌, length};
 ghost use Rattle.typing.specs.Table.{find_first, found};
 ghost use Rattle.typing.specs.Lanes.{next_print, print_by, print, word_at, factor, spread, lane_by, Cleared, Lanes};
 
 use crate::names::same;
-use crate::table::Found;
 use reading::text_at;
 
 // The print after a word more, by a factor.
@@ -29,16 +29,13 @@ pub(crate) fn four(bytes: &[u8], i: usize) -> u32
 pub(crate) fn print_by(bytes: &[u8], h: u32, f: u32) -> u32
     ensures { result ≡ print_by f h bytes.now }
 {
-    let len = bytes.len();
+    let fours = bytes.len() / 4;
     let mut p = h;
-    let mut i: usize = 0;
-    while 3 < len - i {
-        p = next_print(p, four(bytes, i), f);
-        i += 4;
+    for k in 0..fours {
+        p = next_print(p, four(bytes, 4 * k), f);
     }
-    while i < len {
+    for i in 4 * fours..bytes.len() {
         p = next_print(p, bytes[i] as u32, f);
-        i += 1;
     }
     p
 }
@@ -82,7 +79,7 @@ pub fn lane_find<'a>(
     heads: &'a [u16],
     links: &'a [u16],
     name: &'a [u8],
-) -> Found
+) -> Option<usize>
     requires { Lanes doc.now table.now k heads.now links.now }
     ensures { result ≡ found (find_first doc.now name.now table.now k) }
 {
@@ -90,11 +87,11 @@ pub fn lane_find<'a>(
     while 0 < p {
         let i = (p - 1) as usize;
         if same(text_at(doc, table[2 * i]), name) {
-            return Found::At(table[2 * i + 1]);
+            return Some(table[2 * i + 1]);
         }
         p = links[i];
     }
-    Found::Nothing
+    None
 }
 
 // Puts pair k on its lane.
@@ -114,8 +111,7 @@ fn lane_put(doc: &[u8], table: &[usize], k: usize, heads: &mut [u16], links: &mu
 // Whether 24 pairs stand before pair k on its lane.
 fn is_crowded(links: &[u16], k: usize) -> bool {
     let mut i = k;
-    let mut left: usize = 24;
-    while 0 < left {
+    for _ in 0..24usize {
         if links.len() <= i {
             return false;
         }
@@ -124,7 +120,6 @@ fn is_crowded(links: &[u16], k: usize) -> bool {
             return false;
         }
         i = p - 1;
-        left -= 1;
     }
     true
 }
@@ -134,11 +129,7 @@ fn clear_heads(heads: &mut [u16], key: u16)
     requires { length heads.old ≡ 1025 }
     ensures { Cleared heads.new }
 {
-    let mut h: usize = 0;
-    while h < 1024 {
-        heads[h] = 0;
-        h += 1;
-    }
+    heads[..1024].fill(0);
     heads[1024] = key;
 }
 
@@ -152,10 +143,8 @@ fn lane_all(doc: &[u8], table: &[usize], n: usize, key: u16, heads: &mut [u16], 
     ensures links_len_unchanged { length links.new ≡ length links.old }
 {
     clear_heads(heads, key);
-    let mut i: usize = 0;
-    while i < n {
+    for i in 0..n {
         lane_put(doc, table, i, heads, links);
-        i += 1;
     }
 }
 

@@ -1,4 +1,5 @@
-// Names that stand in the document, compared by length first and then by their bytes, four at a time while there are four.
+// Names that stand in the document, compared by length first and then by their bytes, four at a time while there are four:
+// the library's equality of slices goes byte by byte.
 ghost use Rattle.std.specs.Prelude.{◌≡◌};
 ghost use Rattle.reading.specs.Skip.{text_at};
 ghost use Rattle.typing.specs.Names.{eq_name};
@@ -13,19 +14,16 @@ pub fn same<'a>(a: &'a [u8], b: &'a [u8]) -> bool
     if a.len() != b.len() {
         return false;
     }
-    let len = a.len();
-    let mut i: usize = 0;
-    while 3 < len - i {
-        if four(a, i) != four(b, i) {
+    let fours = a.len() / 4;
+    for k in 0..fours {
+        if four(a, 4 * k) != four(b, 4 * k) {
             return false;
         }
-        i += 4;
     }
-    while i < len {
+    for i in 4 * fours..a.len() {
         if a[i] != b[i] {
             return false;
         }
-        i += 1;
     }
     true
 }

@@ -4,9 +4,9 @@ ghost use Rattle.typing.specs.Causes.{number, cause_word, blame_word};
 ghost use Rattle.typing.specs.Means.{cause_of, unfit_of, blame_of};
 
 use crate::cause::{Blame, Cause};
-use crate::rules::Fit;
 
 // The number of a cause.
+#[tactic(auto, unfolding(crate::specs::Causes::number, crate::specs::Means::cause_of))]
 pub fn cause_number(doc: &[u8], cause: Cause) -> u32
     ensures { result ≡ number (cause_of doc.now cause) }
 {
@@ -46,21 +46,23 @@ pub fn cause_number(doc: &[u8], cause: Cause) -> u32
 }
 
 // The number of what is wrong with a pattern or an output; 0 where nothing is.
-pub fn blame_number(doc: &[u8], blame: Blame) -> u32
+#[tactic(auto, unfolding(crate::specs::Causes::blame_word, crate::specs::Means::blame_of))]
+pub fn blame_number(doc: &[u8], blame: Result<(), Blame>) -> u32
     ensures { result ≡ blame_word (blame_of doc.now blame) }
 {
     match blame {
-        Blame::Nothing => 0,
-        Blame::Found(_, cause) => cause_number(doc, cause),
+        Ok(()) => 0,
+        Err(Blame { cause, .. }) => cause_number(doc, cause),
     }
 }
 
 // The number of what is wrong; 0 where nothing is.
-pub fn fit_number(doc: &[u8], fit: Fit) -> u32
+#[tactic(auto, unfolding(crate::specs::Causes::cause_word, crate::specs::Means::unfit_of))]
+pub fn fit_number(doc: &[u8], fit: Result<(), Cause>) -> u32
     ensures { result ≡ cause_word (unfit_of doc.now fit) }
 {
     match fit {
-        Fit::Fine => 0,
-        Fit::Unfit(cause) => cause_number(doc, cause),
+        Ok(()) => 0,
+        Err(cause) => cause_number(doc, cause),
     }
 }

@@ -12,28 +12,28 @@ use crate::entries::{entries_at, fields_at};
 use crate::fill::{after_head, after_tag, word};
 use crate::first::first_variant;
 use crate::roll::roll_find;
-use crate::table::{Found, after};
+use crate::table::after;
 use reading::text_at;
 
 // The place of the name of the only one in the list of variants at a place.
-pub(crate) fn only_variant(doc: &[u8], at: usize) -> Found
+pub(crate) fn only_variant(doc: &[u8], at: usize) -> Option<usize>
     ensures { OnlyVariant doc.now at result }
 {
     let e = entries_at(doc, at);
     if e.many != 1 {
-        return Found::Nothing;
+        return None;
     }
-    Found::At(after_tag(doc, e.first))
+    Some(after_tag(doc, e.first))
 }
 
 // The place of the variant's name: the one given, or that of the only one in a list.
-pub(crate) fn variant_name(doc: &[u8], at: usize, variants: usize) -> Found
+pub(crate) fn variant_name(doc: &[u8], at: usize, variants: usize) -> Option<usize>
     ensures { NamesVariant doc.now at variants result }
 {
     if null_at(doc, at) {
         return only_variant(doc, variants);
     }
-    Found::At(at)
+    Some(at)
 }
 
 // What is wrong with the arguments at a place, of the variant that is declared at another and whose name is given.
@@ -44,7 +44,7 @@ pub(crate) fn judge_output_variant<'a>(
     decl: usize,
     names: &'a [usize],
     enums: &'a [usize],
-) -> Blame
+) -> Result<(), Blame>
     ensures { JudgesVariant (env_at doc.now names.now enums.now) doc.now args name decl result }
 {
     let given = entries_at(doc, args);
@@ -52,7 +52,10 @@ pub(crate) fn judge_output_variant<'a>(
     let m = given.many;
     let n = fields.many;
     if m != n {
-        return Blame::Found(Within::Alone, Cause::ArgumentCount(name, m, n));
+        return Err(Blame {
+            within: Within::Alone,
+            cause: Cause::ArgumentCount(name, m, n),
+        });
     }
     judge_args(doc, given.first, fields.first, m, names, enums)
 }
@@ -74,7 +77,7 @@ pub(crate) fn find_variant<'a>(
     k: usize,
     variants: usize,
     name: &'a [u8],
-) -> Found
+) -> Option<usize>
     requires { k < length outputs.now }
     ensures { FindsVariant doc.now outputs.now k variants name.now result }
 {
@@ -83,11 +86,8 @@ pub(crate) fn find_variant<'a>(
     if q == 0 {
         return first_variant(doc, variants, name);
     }
-    let f = roll_find(doc, outputs, q, true, name);
-    match f {
-        Found::At(i) => Found::At(word(outputs, q + 1 + i)),
-        Found::Nothing => Found::Nothing,
-    }
+    let i = roll_find(doc, outputs, q, true, name)?;
+    Some(word(outputs, q + 1 + i))
 }
 
 // The same by the variants of group k of a table of outputs, which stand at a place: the first of the name.
@@ -101,13 +101,16 @@ pub(crate) fn judge_output_name<'a>(
     variants: usize,
     names: &'a [usize],
     enums: &'a [usize],
-) -> Blame
+) -> Result<(), Blame>
     requires { k < length outputs.now }
     ensures { JudgesName (env_at doc.now names.now enums.now) doc.now group args name outputs.now k variants result }
 {
     let f = find_variant(doc, outputs, k, variants, text_at(doc, name));
-    let Found::At(decl) = f else {
-        return Blame::Found(Within::Alone, Cause::UnknownOutputVariant(name, group));
+    let Some(decl) = f else {
+        return Err(Blame {
+            within: Within::Alone,
+            cause: Cause::UnknownOutputVariant(name, group),
+        });
     };
     judge_output_variant(doc, args, name, decl, names, enums)
 }
@@ -120,7 +123,7 @@ pub(crate) fn judge_output<'a>(
     k: usize,
     names: &'a [usize],
     enums: &'a [usize],
-) -> Blame
+) -> Result<(), Blame>
     requires { k < length outputs.now }
     ensures { JudgesGroup (env_at doc.now names.now enums.now) doc.now group outputs.now k result }
 {
@@ -128,8 +131,11 @@ pub(crate) fn judge_output<'a>(
     let args = after(doc, variant);
     let variants = variants_in(doc, outputs, k);
     let f = variant_name(doc, variant, variants);
-    let Found::At(name) = f else {
-        return Blame::Found(Within::Alone, Cause::BareOutput(group));
+    let Some(name) = f else {
+        return Err(Blame {
+            within: Within::Alone,
+            cause: Cause::BareOutput(group),
+        });
     };
     judge_output_name(doc, group, args, name, outputs, k, variants, names, enums)
 }
@@ -141,13 +147,16 @@ pub fn validate_output_expr<'a>(
     outputs: &'a [usize],
     names: &'a [usize],
     enums: &'a [usize],
-) -> Blame
+) -> Result<(), Blame>
     ensures { JudgesOutput (env_at doc.now names.now enums.now) doc.now at outputs.now result }
 {
     let group = after_head(doc, at);
     let f = roll_find(doc, outputs, 0, false, text_at(doc, group));
-    let Found::At(k) = f else {
-        return Blame::Found(Within::Alone, Cause::UnknownOutputGroup(group));
+    let Some(k) = f else {
+        return Err(Blame {
+            within: Within::Alone,
+            cause: Cause::UnknownOutputGroup(group),
+        });
     };
     judge_output(doc, group, outputs, k, names, enums)
 }

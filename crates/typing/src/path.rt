@@ -1,24 +1,22 @@
 // What a path means: its type, or the cause.
 ghost use Rattle.std.specs.Prelude.{◌≡◌, []};
-ghost use Rattle.reading.specs.Item.{read_number};
-ghost use Rattle.reading.specs.Limits.{max_u32};
 ghost use Rattle.reading.specs.Expr.{read_path};
 ghost use Rattle.reading.specs.Skip.{text_at};
 ghost use Rattle.typing.specs.Env.{state_variants};
 ghost use Rattle.typing.specs.Typing.{resolve_state, resolve_name, resolve_variant};
-ghost use Rattle.typing.specs.Means.{good, typed_of, outcome};
+ghost use Rattle.typing.specs.Means.{typed_of, outcome};
 ghost use Rattle.typing.specs.Tells.{Ends};
 ghost use Rattle.typing.specs.Typed.{Resolves};
-ghost use Rattle.typing.specs.Table.{after_item, width_type, expr_type_at};
+ghost use Rattle.typing.specs.Table.{after_item};
 ghost use Rattle.typing.specs.Blocks.{env_at};
 
 use crate::block::{find, find_enum};
 use crate::cause::{Cause, Typed};
 use crate::names::same;
 use crate::segments::has_variant;
-use crate::table::{Found, after, after_any};
+use crate::table::{after, after_any, ty_at};
 use crate::ty::Ty;
-use reading::{Answer, Cursor, Tagged, text_at};
+use reading::{Cursor, text_at};
 
 // Whether a name is a variant of the last enum called State.
 pub(crate) fn state_variant<'a>(doc: &'a [u8], enums: &'a [usize], name: &'a [u8]) -> bool
@@ -26,8 +24,8 @@ pub(crate) fn state_variant<'a>(doc: &'a [u8], enums: &'a [usize], name: &'a [u8
 {
     let f = find_enum(doc, enums, b"State");
     match f {
-        Found::At(list) => has_variant(doc, enums, list, name),
-        Found::Nothing => false,
+        Some(list) => has_variant(doc, enums, list, name),
+        None => false,
     }
 }
 
@@ -36,39 +34,9 @@ pub(crate) fn resolve_state<'a>(doc: &'a [u8], at: usize, next: usize, enums: &'
     ensures { typed_of doc.now result ≡ outcome next (resolve_state (env_at doc.now [] enums.now) (text_at doc.now at)) }
 {
     if state_variant(doc, enums, text_at(doc, at)) {
-        return Typed::Is(Ty::State, next);
+        return Ok((Ty::State, next));
     }
-    Typed::Fails(Cause::UnknownIdentifier(at))
-}
-
-// The type of a width at a place, of an expression that ends at `next`.
-fn typed_width(doc: &[u8], at: usize, next: usize) -> Typed
-    ensures { typed_of doc.now result ≡ good (width_type (read_number max_u32 doc.now at)) next }
-{
-    let c = Cursor { at };
-    let r = c.number(doc, 4294967295);
-    let Answer::Got(w, _) = r else {
-        return Typed::Is(Ty::Bool, next);
-    };
-    Typed::Is(Ty::Bit(w as u32), next)
-}
-
-// The declared type at a place, of an expression that ends at `next`.
-fn typed_at(doc: &[u8], at: usize, next: usize) -> Typed
-    ensures { typed_of doc.now result ≡ good (expr_type_at doc.now at) next }
-{
-    let c = Cursor { at };
-    let r = c.tag(doc);
-    let Tagged::Case(tag, under) = r else {
-        return Typed::Is(Ty::Bool, next);
-    };
-    let case = tag.case;
-    match case {
-        0 => Typed::Is(Ty::Bool, next),
-        1 => typed_width(doc, under.at, next),
-        2 => Typed::Is(Ty::Enum(under.at), next),
-        3..=u64::MAX => Typed::Is(Ty::Bool, next),
-    }
+    Err(Cause::UnknownIdentifier(at))
 }
 
 // A path of one name: `state` first, then bindings and variables, then variants.
@@ -83,12 +51,12 @@ pub(crate) fn resolve_name<'a>(
 {
     let name = text_at(doc, at);
     if same(name, b"state") {
-        return Typed::Is(Ty::State, next);
+        return Ok((Ty::State, next));
     }
     let f = find(doc, names, name);
     match f {
-        Found::At(under) => typed_at(doc, under, next),
-        Found::Nothing => resolve_state(doc, at, next, enums),
+        Some(under) => Ok((ty_at(doc, under), next)),
+        None => resolve_state(doc, at, next, enums),
     }
 }
 
@@ -103,17 +71,17 @@ pub(crate) fn resolve_variant<'a>(
     ensures { typed_of doc.now result ≡ outcome next (resolve_variant (env_at doc.now [] enums.now) (text_at doc.now at) (text_at doc.now (after_item doc.now at)) segments) }
 {
     let f = find_enum(doc, enums, text_at(doc, at));
-    let Found::At(list) = f else {
-        return Typed::Fails(Cause::UnknownEnum(at));
+    let Some(list) = f else {
+        return Err(Cause::UnknownEnum(at));
     };
     let variant = after(doc, at);
     if has_variant(doc, enums, list, text_at(doc, variant)) {
         if 2 < segments {
-            return Typed::Fails(Cause::PathLength(segments));
+            return Err(Cause::PathLength(segments));
         }
-        return Typed::Is(Ty::Enum(at), next);
+        return Ok((Ty::Enum(at), next));
     }
-    Typed::Fails(Cause::UnknownVariant(variant, at))
+    Err(Cause::UnknownVariant(variant, at))
 }
 
 // The place after the path at a place: one of one or two names ends where the last of them does.
@@ -144,13 +112,13 @@ pub fn resolve_path<'a>(
 {
     let c = Cursor { at };
     let r = c.count(doc, 8);
-    let Answer::Got(segments, first) = r else {
-        return Typed::Fails(Cause::EmptyPath);
+    let Ok((segments, first)) = r else {
+        return Err(Cause::EmptyPath);
     };
     let k = first.at;
     match segments {
-        0 => Typed::Fails(Cause::EmptyPath),
+        0 => Err(Cause::EmptyPath),
         1 => resolve_name(doc, k, next, names, enums),
-        2..=u64::MAX => resolve_variant(doc, k, segments, next, enums),
+        _ => resolve_variant(doc, k, segments, next, enums),
     }
 }

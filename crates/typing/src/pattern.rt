@@ -6,44 +6,41 @@ ghost use Rattle.typing.specs.Accepts.{bool_on, EnumOf, VariantOf, AcceptsInt, A
 use crate::cause::Cause;
 use crate::fits::fits;
 use crate::names::same;
-use crate::rules::Fit;
-use crate::table::{Found, ty_at};
+use crate::table::ty_at;
 use crate::ty::Ty;
-use reading::{Answer, Cursor, Tagged, text_at};
+use reading::{Cursor, text_at};
 
 // A boolean literal.
-pub(crate) fn bool_on(doc: &[u8], ty: Ty) -> Fit
+#[tactic(auto, unfolding(crate::specs::Accepts::bool_on, crate::specs::Means::ty_of, crate::specs::Means::unfit_of, crate::specs::Means::cause_of))]
+pub(crate) fn bool_on(doc: &[u8], ty: Ty) -> Result<(), Cause>
     ensures { unfit_of doc.now result ≡ bool_on (ty_of doc.now ty) }
 {
     match ty {
-        Ty::Bool => Fit::Fine,
-        Ty::Bit(_) => Fit::Unfit(Cause::BooleanLiteral),
-        Ty::IntLit => Fit::Unfit(Cause::BooleanLiteral),
-        Ty::State => Fit::Unfit(Cause::BooleanLiteral),
-        Ty::Enum(_) => Fit::Unfit(Cause::BooleanLiteral),
+        Ty::Bool => Ok(()),
+        _ => Err(Cause::BooleanLiteral),
     }
 }
 
 // An integer literal at a place.
-pub(crate) fn int_on(doc: &[u8], at: usize, ty: Ty) -> Fit
+pub(crate) fn int_on(doc: &[u8], at: usize, ty: Ty) -> Result<(), Cause>
     ensures { AcceptsInt doc.now at (ty_of doc.now ty) result }
 {
     let c = Cursor { at };
-    let n = c.number(doc, 18446744073709551615);
-    let Answer::Got(value, _) = n else {
-        return Fit::Fine;
+    let n = c.number(doc, u64::MAX);
+    let Ok((value, _)) = n else {
+        return Ok(());
     };
     match ty {
-        Ty::Bool => Fit::Unfit(Cause::IntegerOnBool),
+        Ty::Bool => Err(Cause::IntegerOnBool),
         Ty::Bit(width) => {
             if fits(value, width) {
-                return Fit::Fine;
+                return Ok(());
             }
-            Fit::Unfit(Cause::DoesNotFit(value, width))
+            Err(Cause::DoesNotFit(value, width))
         }
-        Ty::IntLit => Fit::Unfit(Cause::IntegerOnBool),
-        Ty::State => Fit::Unfit(Cause::IntegerOnEnum),
-        Ty::Enum(_) => Fit::Unfit(Cause::IntegerOnEnum),
+        Ty::IntLit => Err(Cause::IntegerOnBool),
+        Ty::State => Err(Cause::IntegerOnEnum),
+        Ty::Enum(_) => Err(Cause::IntegerOnEnum),
     }
 }
 
@@ -53,7 +50,7 @@ pub(crate) fn variant_of<'a>(doc: &'a [u8], at: usize, name: &'a [u8]) -> bool
 {
     let c = Cursor { at };
     let r = c.count(doc, 8);
-    let Answer::Got(segments, first) = r else {
+    let Ok((segments, first)) = r else {
         return false;
     };
     if segments < 2 {
@@ -63,53 +60,53 @@ pub(crate) fn variant_of<'a>(doc: &'a [u8], at: usize, name: &'a [u8]) -> bool
 }
 
 // The place of the name of the enum that is declared at a place.
-pub(crate) fn enum_at(doc: &[u8], at: usize) -> Found
+pub(crate) fn enum_at(doc: &[u8], at: usize) -> Option<usize>
     ensures { EnumOf doc.now at result }
 {
     let c = Cursor { at };
     let t = c.tag(doc);
-    let Tagged::Case(tag, fields) = t else {
-        return Found::Nothing;
+    let Ok((tag, fields)) = t else {
+        return None;
     };
     let case = tag.case;
     match case {
-        0 => Found::Nothing,
-        1 => Found::Nothing,
-        2..=u64::MAX => Found::At(fields.at),
+        0 => None,
+        1 => None,
+        _ => Some(fields.at),
     }
 }
 
 // A path at a place, on the type at another.
-pub(crate) fn path_on(doc: &[u8], at: usize, ty: usize) -> Fit
+pub(crate) fn path_on(doc: &[u8], at: usize, ty: usize) -> Result<(), Cause>
     ensures { AcceptsPath doc.now at ty result }
 {
     let f = enum_at(doc, ty);
-    let Found::At(e) = f else {
-        return Fit::Unfit(Cause::VariantOnNonEnum);
+    let Some(e) = f else {
+        return Err(Cause::VariantOnNonEnum);
     };
     if variant_of(doc, at, text_at(doc, e)) {
-        return Fit::Fine;
+        return Ok(());
     }
-    Fit::Unfit(Cause::VariantPath(at, e))
+    Err(Cause::VariantPath(at, e))
 }
 
 // What is wrong with the pattern at a place, of a field whose type stands at another, if anything.
-pub fn pattern_expr_compatible(doc: &[u8], at: usize, ty: usize) -> Fit
+pub fn pattern_expr_compatible(doc: &[u8], at: usize, ty: usize) -> Result<(), Cause>
     ensures { Accepts doc.now at ty result }
 {
     let c = Cursor { at };
     let t = c.tag(doc);
-    let Tagged::Case(tag, fields) = t else {
-        return Fit::Fine;
+    let Ok((tag, fields)) = t else {
+        return Ok(());
     };
     let case = tag.case;
     let k = fields.at;
     match case {
-        0 => Fit::Fine,
-        1 => Fit::Fine,
+        0 => Ok(()),
+        1 => Ok(()),
         2 => int_on(doc, k, ty_at(doc, ty)),
         3 => bool_on(doc, ty_at(doc, ty)),
         4 => path_on(doc, k, ty),
-        5..=u64::MAX => Fit::Fine,
+        _ => Ok(()),
     }
 }

@@ -6,7 +6,7 @@ use crate::entries::entries_at;
 use crate::fill::{after_head, after_tag};
 use crate::lanes::{factor, print_by, spread};
 use crate::names::{same, same_name};
-use crate::table::{Found, after};
+use crate::table::after;
 use reading::text_at;
 
 // Where the name of the item at a place stands.
@@ -36,8 +36,7 @@ fn roll_start(table: &[usize], o: usize, n: usize, p: u32) -> usize
     ensures { StartsOn table.now o n p result }
 {
     let mut h = table[o + roll_lane(p, n)] / 4294967296 % 256;
-    let mut left = n;
-    while 0 < left {
+    for _ in 0..n {
         if h == 0 {
             return n;
         }
@@ -49,7 +48,6 @@ fn roll_start(table: &[usize], o: usize, n: usize, p: u32) -> usize
             return h - 1;
         }
         h = w / 1099511627776 % 256;
-        left -= 1;
     }
     n
 }
@@ -61,34 +59,32 @@ pub(crate) fn roll_find<'a>(
     q: usize,
     tagged: bool,
     name: &'a [u8],
-) -> Found
+) -> Option<usize>
     ensures finds_on { FindsOn tagged doc.now name.now table.now q result }
     ensures within_table { WithinTable table.now q result }
 {
     let len = table.len();
     if len <= q {
-        return Found::Nothing;
+        return None;
     }
     let w = table[q];
     let n = w % 256;
     if n == 0 {
-        return Found::Nothing;
+        return None;
     }
     if (len - q - 1) / 2 < n {
-        return Found::Nothing;
+        return None;
     }
     let p = print_by(name, 0, factor(w / 256));
     let o = q + 1 + n;
-    let mut i = roll_start(table, o, n, p);
-    while i < n {
+    for i in roll_start(table, o, n, p)..n {
         if table[o + i] % 4294967296 == p as usize {
             if same(text_at(doc, name_at(doc, table[q + 1 + i], tagged)), name) {
-                return Found::At(i);
+                return Some(i);
             }
         }
-        i += 1;
     }
-    Found::Nothing
+    None
 }
 
 // Puts the places of so many items from a place on behind word q, and the prints of their names by a key behind those.
@@ -107,12 +103,10 @@ fn put_items(
 {
     let f = factor(key);
     let mut k = first;
-    let mut i: usize = 0;
-    while i < many {
+    for i in 0..many {
         table[q + 1 + i] = k;
         table[q + 1 + many + i] = print_by(text_at(doc, name_at(doc, k, tagged)), 0, f) as usize;
         k = after(doc, k);
-        i += 1;
     }
 }
 
@@ -144,9 +138,7 @@ fn link_items(table: &[usize], o: usize, n: usize, hints: &mut [u8], nexts: &mut
     ensures hints_len_2 { length hints.new ≡ 256 }
     ensures nexts_len_2 { length nexts.new ≡ 256 }
 {
-    let mut i = n;
-    while 0 < i {
-        i -= 1;
+    for i in (0..n).rev() {
         let lane = roll_lane((table[o + i] % 4294967296) as u32, n);
         nexts[i] = next_from(table, o, i, hints[lane], nexts);
         hints[lane] = (i + 1) as u8;
@@ -161,11 +153,9 @@ fn put_links<'a>(table: &mut [usize], o: usize, n: usize, hints: &'a [u8], nexts
     requires nexts_len { length nexts.now ≡ 256 }
     ensures { PutsLinks table.old o n hints.now nexts.now table.new }
 {
-    let mut i: usize = 0;
-    while i < n {
+    for i in 0..n {
         let links = (hints[i] as usize) + (nexts[i] as usize) * 256;
         table[o + i] = table[o + i] % 4294967296 + links * 4294967296;
-        i += 1;
     }
 }
 
@@ -239,8 +229,7 @@ fn is_dull(doc: &[u8], table: &[usize], q: usize, n: usize, tagged: bool) -> boo
 {
     let mut counts = [0u8; 256];
     let o = q + 1 + n;
-    let mut i: usize = 0;
-    while i < n {
+    for i in 0..n {
         let lane = roll_lane((table[o + i] % 4294967296) as u32, n);
         let hint = table[o + lane] / 4294967296 % 256;
         if is_other(doc, table, q, n, i, hint, tagged) {
@@ -250,7 +239,6 @@ fn is_dull(doc: &[u8], table: &[usize], q: usize, n: usize, tagged: bool) -> boo
             }
             counts[lane] = c + 1;
         }
-        i += 1;
     }
     false
 }
@@ -261,13 +249,11 @@ fn put_keyed(doc: &[u8], first: usize, many: usize, tagged: bool, table: &mut [u
     requires many_in_bounds { q + 2 * many < length table.old }
     ensures { PutsKeyed tagged doc.now first many table.old q table.new }
 {
-    let mut key: usize = 0;
-    put_roll(doc, first, many, tagged, key, table, q);
-    while key < 7 {
+    put_roll(doc, first, many, tagged, 0, table, q);
+    for key in 1..8 {
         if !is_dull(doc, table, q, many, tagged) {
             return;
         }
-        key += 1;
         put_roll(doc, first, many, tagged, key, table, q);
     }
 }
@@ -337,15 +323,13 @@ pub fn outgrows(doc: &[u8], at: usize, room: usize) -> bool {
     let e = entries_at(doc, at);
     let mut words = 2 * (e.many as usize) + 1;
     let mut k = e.first;
-    let mut left = e.many;
-    while 0 < left {
+    for _ in 0..e.many {
         let variants = after(doc, after_head(doc, k));
         words += roll_words(entries_at(doc, variants).many);
         if room < words {
             return true;
         }
         k = after(doc, k);
-        left -= 1;
     }
     false
 }
@@ -357,9 +341,7 @@ pub fn fill_outputs(doc: &[u8], at: usize, table: &mut [usize])
 {
     let mut q = fill_roll(doc, at, false, 0, table, 0);
     let n = table[0] % 256;
-    let mut k: usize = 0;
-    while k < n {
+    for k in 0..n {
         q = roll_variants(doc, table, n, k, q);
-        k += 1;
     }
 }

@@ -4,15 +4,14 @@ ghost use Rattle.typing.specs.Seen.{Room, Adds, NotesEquality, NotesConjuncts, N
 
 use crate::equality::{Conjunct, Equality, conjunct_at};
 use crate::expr::after_expr;
+use crate::guard::Clash;
 use crate::lanes::{lane_add, lane_find};
-use crate::table::Found;
 use reading::text_at;
 
-// How many pairs the table has; a name, by its place, with an earlier value and one that differs from it; or no room.
-#[derive(Clone, Copy)]
-pub enum Seen {
-    Many(usize),
-    Clash(usize, u64, u64),
+// Why the pass ends early: two values differ, or the table has no room.
+#[derive(Clone, Copy, Debug, PartialEq, Eq)]
+pub enum Stop {
+    Clash(Clash),
     Full,
 }
 
@@ -35,36 +34,40 @@ fn add_equality(
     lane_add(doc, table, k, heads, links);
 }
 
-// An equality against the one of its name; the first of a name goes into the table.
+// An equality against the one of its name; the first of a name goes into the table. How many pairs it has then.
 fn note_equality(
     doc: &[u8],
-    q: Equality,
+    q: Option<Equality>,
     table: &mut [usize],
     k: usize,
     heads: &mut [u16],
     links: &mut [u16],
-) -> Seen
+) -> Result<usize, Stop>
     requires { Room doc.now table.old k heads.old links.old }
     ensures { NotesEquality doc.now q table.old k result table.new heads.new links.new }
 {
-    let Equality::Is(name, value) = q else {
-        return Seen::Many(k);
+    let Some(Equality { name, value: later }) = q else {
+        return Ok(k);
     };
     let f = lane_find(doc, table, k, heads, links, text_at(doc, name));
     match f {
-        Found::At(place) => {
+        Some(place) => {
             let earlier = place as u64;
-            if earlier == value {
-                return Seen::Many(k);
+            if earlier == later {
+                return Ok(k);
             }
-            Seen::Clash(name, earlier, value)
+            Err(Stop::Clash(Clash {
+                name,
+                earlier,
+                later,
+            }))
         }
-        Found::Nothing => {
+        None => {
             if k < 4096 {
-                add_equality(doc, name, value, table, k, heads, links);
-                return Seen::Many(k + 1);
+                add_equality(doc, name, later, table, k, heads, links);
+                return Ok(k + 1);
             }
-            Seen::Full
+            Err(Stop::Full)
         }
     }
 }
@@ -79,12 +82,12 @@ fn note_conjuncts(
     k: usize,
     heads: &mut [u16],
     links: &mut [u16],
-) -> Seen
+) -> Result<usize, Stop>
     requires { Room doc.now table.old k heads.old links.old }
     ensures { NotesConjuncts depth doc.now at table.old k result table.new heads.new links.new }
 {
     if depth == 0 {
-        return Seen::Many(k);
+        return Ok(k);
     }
     let c = conjunct_at(doc, at, depth);
     match c {
@@ -103,21 +106,17 @@ fn note_two(
     k: usize,
     heads: &mut [u16],
     links: &mut [u16],
-) -> Seen
+) -> Result<usize, Stop>
     requires { Room doc.now table.old k heads.old links.old }
     ensures { NotesTwo depth doc.now at table.old k result table.new heads.new links.new }
 {
     let right = after_expr(doc, at, depth);
-    let r = note_conjuncts(doc, right, depth, table, k, heads, links);
-    match r {
-        Seen::Many(m) => note_conjuncts(doc, at, depth, table, m, heads, links),
-        Seen::Clash(_, _, _) => r,
-        Seen::Full => r,
-    }
+    let m = note_conjuncts(doc, right, depth, table, k, heads, links)?;
+    note_conjuncts(doc, at, depth, table, m, heads, links)
 }
 
 // The clash of the guard at a place, where the table has room for its names.
-pub(crate) fn clash_in_one_pass(doc: &[u8], at: usize, depth: u64) -> Seen
+pub(crate) fn clash_in_one_pass(doc: &[u8], at: usize, depth: u64) -> Result<usize, Stop>
     ensures { OnePass depth doc.now at result }
 {
     let mut table = [0usize; 8192];

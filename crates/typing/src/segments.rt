@@ -9,7 +9,7 @@ use crate::entries::entries_at;
 use crate::fill::fill_table;
 use crate::lanes::{factor, print_by, spread};
 use crate::names::same;
-use crate::table::{Found, after, has_name};
+use crate::table::{after, has_name};
 use reading::text_at;
 
 // The mark of a name by a key.
@@ -25,13 +25,11 @@ fn is_marked(marks: usize, m: usize) -> bool
     ensures { result ≡ marked 6 m marks }
 {
     let mut rest = marks;
-    let mut left: usize = 6;
-    while 0 < left {
+    for _ in 0..6usize {
         if rest % 256 == m {
             return true;
         }
         rest = rest / 256;
-        left -= 1;
     }
     false
 }
@@ -42,8 +40,7 @@ fn in_word<'a>(doc: &'a [u8], w: usize, m: usize, name: &'a [u8]) -> bool
 {
     let mut at = w / 281474976710656;
     let mut rest = w % 281474976710656;
-    let mut left: usize = 6;
-    while 0 < left {
+    for _ in 0..6usize {
         if rest % 256 == m {
             if same(text_at(doc, at), name) {
                 return true;
@@ -51,7 +48,6 @@ fn in_word<'a>(doc: &'a [u8], w: usize, m: usize, name: &'a [u8]) -> bool
         }
         at = after(doc, at);
         rest = rest / 256;
-        left -= 1;
     }
     false
 }
@@ -68,10 +64,8 @@ fn in_words<'a>(
     requires { q + many ≤ length table.now }
     ensures { result ≡ among many doc.now name.now m table.now q }
 {
-    let mut left = many;
-    while 0 < left {
-        left -= 1;
-        let w = table[q + left];
+    for i in (0..many).rev() {
+        let w = table[q + i];
         if is_marked(w % 281474976710656, m) {
             if in_word(doc, w, m, name) {
                 return true;
@@ -112,7 +106,7 @@ pub(crate) fn has_variant<'a>(doc: &'a [u8], table: &'a [usize], w: usize, name:
 }
 
 // The marks of some names, the first's lowest, and where the names end.
-#[derive(Clone, Copy)]
+#[derive(Clone, Copy, Debug, PartialEq, Eq)]
 pub struct Packed {
     pub marks: usize,
     pub next: usize,
@@ -148,21 +142,13 @@ fn fill_words(
     ensures { FillsWords key doc.now first many table.old q result table.new }
 {
     let mut k = first;
-    let mut j: usize = 0;
-    let mut left = many;
-    while 0 < left {
+    for j in 0..(many + 5) / 6 {
         if 65535 < k {
             return false;
         }
-        let mut six: usize = 6;
-        if left < 6 {
-            six = left;
-        }
-        let p = pack(doc, k, six, key);
+        let p = pack(doc, k, (many - 6 * j).min(6), key);
         table[q + j] = k * 281474976710656 + p.marks;
         k = p.next;
-        j += 1;
-        left -= six;
     }
     true
 }
@@ -172,8 +158,7 @@ fn is_worn(table: &[usize], q: usize, many: usize) -> bool
     requires { q + many ≤ length table.now }
 {
     let mut counts = [0u8; 256];
-    let mut i: usize = 0;
-    while i < many {
+    for i in 0..many {
         let mut rest = table[q + i] % 281474976710656;
         while 0 < rest {
             let b = rest % 256;
@@ -184,33 +169,32 @@ fn is_worn(table: &[usize], q: usize, many: usize) -> bool
             counts[b] = c + 1;
             rest = rest / 256;
         }
-        i += 1;
     }
     false
 }
 
 // Puts so many names from a place on into the words from word q on, by the first of 8 keys by which no mark is that of many, or by the last; that
 // key, if all could be put.
-fn fill_keyed(doc: &[u8], first: usize, many: usize, table: &mut [usize], q: usize) -> Found
+fn fill_keyed(doc: &[u8], first: usize, many: usize, table: &mut [usize], q: usize) -> Option<usize>
     requires many_bound { many ≤ 255 }
     requires many_in_bounds { q + (many + 5) / 6 ≤ length table.old }
     ensures { FillsKeyed doc.now first many table.old q result table.new }
 {
     let words = (many + 5) / 6;
-    let mut key: usize = 0;
+    let mut key = 0;
     if !fill_words(doc, first, many, key, table, q) {
-        return Found::Nothing;
+        return None;
     }
-    while key < 7 {
+    for next in 1..8 {
         if !is_worn(table, q, words) {
-            return Found::At(key);
+            return Some(key);
         }
-        key += 1;
+        key = next;
         if !fill_words(doc, first, many, key, table, q) {
-            return Found::Nothing;
+            return None;
         }
     }
-    Found::At(key)
+    Some(key)
 }
 
 // Puts the variants of the list at a place into a segment from word q on, if they are more than 16 and there is room; how many words it takes.
@@ -228,7 +212,7 @@ fn fill_segment(doc: &[u8], list: usize, table: &mut [usize], q: usize) -> usize
         return 0;
     }
     let f = fill_keyed(doc, e.first, many, table, q + 1);
-    let Found::At(key) = f else {
+    let Some(key) = f else {
         return 0;
     };
     table[q] = words + 256 * key;
@@ -267,10 +251,8 @@ fn index_enums(doc: &[u8], table: &mut [usize], n: usize)
         return;
     }
     let mut q: usize = 829;
-    let mut i: usize = 0;
-    while i < n {
+    for i in 0..n {
         q = index_enum(doc, table, i, q);
-        i += 1;
     }
 }
 

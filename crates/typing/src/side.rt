@@ -1,10 +1,10 @@
 // The sides of ==.
 ghost use Rattle.typing.specs.Equalities.{ValueAt, NameAt, SideAt};
 
-use reading::{Answer, Cursor, Tagged};
+use reading::Cursor;
 
 // A side of ==: a literal, the name of a path that has no other, or anything else.
-#[derive(Clone, Copy)]
+#[derive(Clone, Copy, Debug, PartialEq, Eq)]
 pub enum Side {
     Value(u64),
     Name(usize),
@@ -16,8 +16,8 @@ pub(crate) fn value_at(doc: &[u8], at: usize) -> Side
     ensures { ValueAt doc.now at result }
 {
     let c = Cursor { at };
-    let r = c.number(doc, 18446744073709551615);
-    let Answer::Got(value, _) = r else {
+    let r = c.number(doc, u64::MAX);
+    let Ok((value, _)) = r else {
         return Side::Other;
     };
     Side::Value(value)
@@ -29,7 +29,7 @@ pub(crate) fn name_at(doc: &[u8], at: usize) -> Side
 {
     let c = Cursor { at };
     let r = c.count(doc, 8);
-    let Answer::Got(segments, first) = r else {
+    let Ok((segments, first)) = r else {
         return Side::Other;
     };
     if segments != 1 {
@@ -44,15 +44,14 @@ pub(crate) fn side_at(doc: &[u8], at: usize, depth: u64) -> Side
 {
     let c = Cursor { at };
     let t = c.tag(doc);
-    let Tagged::Case(tag, fields) = t else {
+    let Ok((tag, fields)) = t else {
         return Side::Other;
     };
     let case = tag.case;
     let k = fields.at;
     match case {
         0 => value_at(doc, k),
-        1 => Side::Other,
         2 => name_at(doc, k),
-        3..=u64::MAX => Side::Other,
+        _ => Side::Other,
     }
 }

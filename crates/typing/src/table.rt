@@ -8,14 +8,7 @@ ghost use Rattle.typing.specs.Table.{Past, Stops, Differs, width_type, expr_type
 use crate::entries::entries_at;
 use crate::names::same;
 use crate::ty::Ty;
-use reading::{Answer, Cursor, Step, Tagged, text_at};
-
-// What stands under a name: its place.
-#[derive(Clone, Copy)]
-pub enum Found {
-    At(usize),
-    Nothing,
-}
+use reading::{Cursor, Refusal, text_at};
 
 // The place after the item at a place, by the heads in it.
 pub(crate) fn after_any(doc: &[u8], at: usize) -> usize
@@ -24,38 +17,35 @@ pub(crate) fn after_any(doc: &[u8], at: usize) -> usize
     let c = Cursor { at };
     let r = c.skip(doc, 1);
     match r {
-        Step::To(next) => next.at,
-        Step::Refused(_, place) => place,
+        Ok(next) => next.at,
+        Err(Refusal { place, .. }) => place,
     }
 }
 
 // Where a short item ends, by its first byte: a name, a number, an empty list or a simple value.
-fn short_end(doc: &[u8], at: usize) -> Found
+#[tactic(auto, unfolding(crate::specs::Table::Stops))]
+fn short_end(doc: &[u8], at: usize) -> Option<usize>
     ensures { Stops doc.now at result }
 {
     if at < doc.len() {
         let b = doc[at];
-        if 96 < b {
-            if b < 120 {
-                let n = (b - 96) as usize;
-                if n < doc.len() - at {
-                    return Found::At(at + 1 + n);
-                }
+        if 96 < b && b < 120 {
+            let n = (b - 96) as usize;
+            if n < doc.len() - at {
+                return Some(at + 1 + n);
             }
         }
         if b < 24 {
-            return Found::At(at + 1);
+            return Some(at + 1);
         }
         if b == 128 {
-            return Found::At(at + 1);
+            return Some(at + 1);
         }
-        if 243 < b {
-            if b < 247 {
-                return Found::At(at + 1);
-            }
+        if 243 < b && b < 247 {
+            return Some(at + 1);
         }
     }
-    Found::Nothing
+    None
 }
 
 // The place after the item at a place: most are short.
@@ -64,30 +54,27 @@ pub fn after(doc: &[u8], at: usize) -> usize
 {
     let e = short_end(doc, at);
     match e {
-        Found::At(end) => end,
-        Found::Nothing => after_any(doc, at),
+        Some(end) => end,
+        None => after_any(doc, at),
     }
 }
 
 // The same of a short data enum: a case alone, or a case and a short item.
-fn case_end(doc: &[u8], at: usize) -> Found
+#[tactic(auto, unfolding(crate::specs::Table::Stops))]
+fn case_end(doc: &[u8], at: usize) -> Option<usize>
     ensures { Stops doc.now at result }
 {
     let len = doc.len();
-    if at < len {
-        if 2 < len - at {
-            let b = doc[at];
-            if doc[at + 1] < 24 {
-                if b == 129 {
-                    return Found::At(at + 2);
-                }
-                if b == 130 {
-                    return short_end(doc, at + 2);
-                }
-            }
+    if at < len && 2 < len - at && doc[at + 1] < 24 {
+        let b = doc[at];
+        if b == 129 {
+            return Some(at + 2);
+        }
+        if b == 130 {
+            return short_end(doc, at + 2);
         }
     }
-    Found::Nothing
+    None
 }
 
 // The place after the data enum at a place: most are short.
@@ -96,8 +83,8 @@ pub(crate) fn after_case(doc: &[u8], at: usize) -> usize
 {
     let e = case_end(doc, at);
     match e {
-        Found::At(end) => end,
-        Found::Nothing => after_any(doc, at),
+        Some(end) => end,
+        None => after_any(doc, at),
     }
 }
 
@@ -107,7 +94,7 @@ pub(crate) fn width_at(doc: &[u8], at: usize) -> Ty
 {
     let c = Cursor { at };
     let r = c.number(doc, 4294967295);
-    let Answer::Got(w, _) = r else {
+    let Ok((w, _)) = r else {
         return Ty::Bool;
     };
     Ty::Bit(w as u32)
@@ -119,40 +106,38 @@ pub(crate) fn ty_at(doc: &[u8], at: usize) -> Ty
 {
     let c = Cursor { at };
     let r = c.tag(doc);
-    let Tagged::Case(tag, next) = r else {
+    let Ok((tag, next)) = r else {
         return Ty::Bool;
     };
     let case = tag.case;
     match case {
-        0 => Ty::Bool,
         1 => width_at(doc, next.at),
         2 => Ty::Enum(next.at),
-        3..=u64::MAX => Ty::Bool,
+        _ => Ty::Bool,
     }
 }
 
 // Where the short name at a place ends, if its length or its last byte tells it from the name.
-pub(crate) fn other_end<'a>(doc: &'a [u8], at: usize, name: &'a [u8]) -> Found
+#[tactic(auto, unfolding(crate::specs::Table::Differs))]
+pub(crate) fn other_end<'a>(doc: &'a [u8], at: usize, name: &'a [u8]) -> Option<usize>
     ensures { Differs doc.now at name.now result }
 {
     let len = doc.len();
     if at < len {
         let b = doc[at];
-        if 96 < b {
-            if b < 120 {
-                let n = (b - 96) as usize;
-                if n < len - at {
-                    if n != name.len() {
-                        return Found::At(at + 1 + n);
-                    }
-                    if doc[at + n] != name[n - 1] {
-                        return Found::At(at + 1 + n);
-                    }
+        if 96 < b && b < 120 {
+            let n = (b - 96) as usize;
+            if n < len - at {
+                if n != name.len() {
+                    return Some(at + 1 + n);
+                }
+                if doc[at + n] != name[n - 1] {
+                    return Some(at + 1 + n);
                 }
             }
         }
     }
-    Found::Nothing
+    None
 }
 
 // Whether the list of names at a place has the name. Most are passed by `other_end`.
@@ -161,14 +146,13 @@ pub fn has_name<'a>(doc: &'a [u8], at: usize, name: &'a [u8]) -> bool
 {
     let e = entries_at(doc, at);
     let mut k = e.first;
-    let mut left = e.many;
-    while 0 < left {
+    for _ in 0..e.many {
         let o = other_end(doc, k, name);
         match o {
-            Found::At(end) => {
+            Some(end) => {
                 k = end;
             }
-            Found::Nothing => {
+            None => {
                 let whole = doc;
                 if same(text_at(whole, k), name) {
                     return true;
@@ -176,7 +160,6 @@ pub fn has_name<'a>(doc: &'a [u8], at: usize, name: &'a [u8]) -> bool
                 k = after(whole, k);
             }
         }
-        left -= 1;
     }
     false
 }

@@ -7,7 +7,7 @@ use crate::names::{is_word, same_name};
 
 // A type. The name of an enum is the place where it stands in the document; `state` has the type `State` though no
 // enum of that name may be declared.
-#[derive(Clone, Copy)]
+#[derive(Clone, Copy, Debug, PartialEq, Eq)]
 pub enum Ty {
     Bool,
     Bit(u32),
@@ -17,100 +17,61 @@ pub enum Ty {
 }
 
 // A type as an operand of arithmetic.
-#[derive(Clone, Copy)]
+#[derive(Clone, Copy, Debug, PartialEq, Eq)]
 pub enum Bits {
     Width(u32),
     Literal,
     Other,
 }
 
+#[tactic(auto, unfolding(crate::specs::Rules::bits_of, crate::specs::Means::ty_of))]
 pub(crate) fn bits_of(doc: &[u8], t: Ty) -> Bits
     ensures { result ≡ bits_of (ty_of doc.now t) }
 {
     match t {
-        Ty::Bool => Bits::Other,
         Ty::Bit(w) => Bits::Width(w),
         Ty::IntLit => Bits::Literal,
-        Ty::State => Bits::Other,
-        Ty::Enum(_) => Bits::Other,
+        Ty::Bool | Ty::State | Ty::Enum(_) => Bits::Other,
     }
 }
 
+#[tactic(auto, unfolding(crate::specs::Rules::is_bool, crate::specs::Means::ty_of))]
 pub fn is_bool(doc: &[u8], t: Ty) -> bool
     ensures { result ≡ is_bool (ty_of doc.now t) }
 {
-    match t {
-        Ty::Bool => true,
-        Ty::Bit(_) => false,
-        Ty::IntLit => false,
-        Ty::State => false,
-        Ty::Enum(_) => false,
-    }
+    matches!(t, Ty::Bool)
 }
 
 // Whether two types are equal.
+#[tactic(auto, unfolding(crate::specs::Rules::same_type, crate::specs::Means::ty_of))]
 pub(crate) fn same_ty(doc: &[u8], a: Ty, b: Ty) -> bool
     ensures { result ≡ same_type (ty_of doc.now a) (ty_of doc.now b) }
 {
-    match a {
-        Ty::Bool => is_bool(doc, b),
-        Ty::Bit(v) => match b {
-            Ty::Bool => false,
-            Ty::Bit(w) => v == w,
-            Ty::IntLit => false,
-            Ty::State => false,
-            Ty::Enum(_) => false,
-        },
-        Ty::IntLit => match b {
-            Ty::Bool => false,
-            Ty::Bit(_) => false,
-            Ty::IntLit => true,
-            Ty::State => false,
-            Ty::Enum(_) => false,
-        },
-        Ty::State => match b {
-            Ty::Bool => false,
-            Ty::Bit(_) => false,
-            Ty::IntLit => false,
-            Ty::State => true,
-            Ty::Enum(q) => is_word(doc, q, b"State"),
-        },
-        Ty::Enum(p) => match b {
-            Ty::Bool => false,
-            Ty::Bit(_) => false,
-            Ty::IntLit => false,
-            Ty::State => is_word(doc, p, b"State"),
-            Ty::Enum(q) => same_name(doc, p, q),
-        },
+    match (a, b) {
+        (Ty::Bool, Ty::Bool) | (Ty::IntLit, Ty::IntLit) | (Ty::State, Ty::State) => true,
+        (Ty::Bit(v), Ty::Bit(w)) => v == w,
+        (Ty::State, Ty::Enum(p)) => is_word(doc, p, b"State"),
+        (Ty::Enum(p), Ty::State) => is_word(doc, p, b"State"),
+        (Ty::Enum(p), Ty::Enum(q)) => same_name(doc, p, q),
+        _ => false,
     }
 }
 
 // Whether one is a literal and the other a bitvector.
+#[tactic(auto, unfolding(crate::specs::Rules::literal_with_bits))]
 pub(crate) fn literal_with_bits(a: Bits, b: Bits) -> bool
     ensures { result ≡ literal_with_bits a b }
 {
-    match a {
-        Bits::Width(_) => match b {
-            Bits::Width(_) => false,
-            Bits::Literal => true,
-            Bits::Other => false,
-        },
-        Bits::Literal => match b {
-            Bits::Width(_) => true,
-            Bits::Literal => false,
-            Bits::Other => false,
-        },
-        Bits::Other => false,
-    }
+    matches!(
+        (a, b),
+        (Bits::Width(_), Bits::Literal) | (Bits::Literal, Bits::Width(_))
+    )
 }
 
 // Whether one is a literal and the other a bool, as the test says.
+#[tactic(auto, unfolding(crate::specs::Rules::literal_with_bool))]
 pub(crate) fn literal_with_bool(a: Bits, b: bool) -> bool
     ensures { result ≡ literal_with_bool a b }
 {
-    match a {
-        Bits::Width(_) => false,
-        Bits::Literal => b,
-        Bits::Other => false,
-    }
+    b && matches!(a, Bits::Literal)
 }

@@ -1,15 +1,16 @@
 -- By the document's verdict.
+use Rattle.std.proofs.lemmas.Result.{err_from_is_err_and}
 use Rattle.findings.proofs.ReplyLaws.{accepted_reply, accepted_sheet, refused_reply, refused_sheet}
 use Rattle.findings.proofs.findings.Goals as goal
 
-pub returns-in-Accepted-clause-value : goal.returns-in-Accepted-clause-value
-returns-in-Accepted-clause-value c = search accepted_reply
+pub returns-clause-value : goal.returns-clause-value
+returns-clause-value c = accepted_reply _ _ c.in_ok-read_document.ensures c.reply.ensures
 
-pub returns-in-Accepted-clause-out_after : goal.returns-in-Accepted-clause-out_after
-returns-in-Accepted-clause-out_after c = search accepted_sheet
+pub returns-clause-out_after : goal.returns-clause-out_after
+returns-clause-out_after c = accepted_sheet _ _ c.in_ok-read_document.ensures c.reply.ensures
 
-pub returns-in-Refused-clause-value : goal.returns-in-Refused-clause-value
-returns-in-Refused-clause-value c = search refused_reply
+pub returns-in_err-read_document-clause-value : goal.returns-in_err-read_document-clause-value
+returns-in_err-read_document-clause-value c = let p = err_from_is_err_and c.from_residual.result c.from_residual.ensures.1 in rw (p.1, p.2) (refused_reply _ _ c.in_err-read_document.ensures)
 
-pub returns-in-Refused-clause-out_after : goal.returns-in-Refused-clause-out_after
-returns-in-Refused-clause-out_after c = search refused_sheet
+pub returns-in_err-read_document-clause-out_after : goal.returns-in_err-read_document-clause-out_after
+returns-in_err-read_document-clause-out_after c = refused_sheet _ _ c.in_err-read_document.ensures

@@ -1,9 +1,9 @@
--- Each turn leaves less to fill; the space keeps its length.
-use Rattle.std.proofs.Common.{length, ◌-◌, ◌≡◌, ◌≤◌}
+-- Each turn leaves less to fill.
+use Rattle.std.proofs.Common.{length, ◌-◌, ◌≤◌}
 use Rattle.offercheck.proofs.read_full.Given as goal
 
 abbrev pub invariant-loop-done : goal.invariant-loop-done
-invariant-loop-done l = (length l.space ≡ length l.initial.space) × (l.done ≤ length l.space)
+invariant-loop-done l = l.done ≤ length l.space
 
 abbrev pub decreases-loop-done : goal.decreases-loop-done
 decreases-loop-done l = length l.space - l.done

@@ -1,13 +1,6 @@
 -- The finding is among the errors, among the warnings, or missing.
-use borrow.Author.Rules.{rules}
 use Rattle.findings.proofs.ReplyLaws.{line_error, line_missing, line_after}
 use Rattle.findings.proofs.call.line.Goals as goal
-
-pub walk_all-totals-requires-clause-n_bound : goal.walk_all-totals-requires-clause-n_bound
-walk_all-totals-requires-clause-n_bound c = search rules
-
-pub walk_all-totals-requires-clause-k_bound : goal.walk_all-totals-requires-clause-k_bound
-walk_all-totals-requires-clause-k_bound c = search rules
 
 pub returns-then-k-errors : goal.returns-then-k-errors
 returns-then-k-errors c = search line_error

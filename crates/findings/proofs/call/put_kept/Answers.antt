@@ -1,23 +1,10 @@
 -- Too short, or copied.
-use borrow.Author.Rules.{rules}
 use native.Mathlib.Omega.{arith}
 use Rattle.findings.proofs.ReplyLaws.{kept_short, kept_written}
 use Rattle.findings.proofs.call.put_kept.Goals as goal
 
 pub returns-then-out-errors : goal.returns-then-out-errors
 returns-then-out-errors c = search kept_short
-
-pub copy_words-requires-clause-len_in_bounds : goal.copy_words-requires-clause-len_in_bounds
-copy_words-requires-clause-len_in_bounds c = search rules
-
-pub copy_words-requires-clause-len_in_bounds_2 : goal.copy_words-requires-clause-len_in_bounds_2
-copy_words-requires-clause-len_in_bounds_2 c = search rules
-
-pub copy_words-requires-2-clause-len_in_bounds : goal.copy_words-requires-2-clause-len_in_bounds
-copy_words-requires-2-clause-len_in_bounds c = search rules
-
-pub copy_words-requires-2-clause-len_in_bounds_2 : goal.copy_words-requires-2-clause-len_in_bounds_2
-copy_words-requires-2-clause-len_in_bounds_2 c = search rules
 
 pub returns : goal.returns
 returns c = kept_written _ _ _ c.copy_words.ensures c.copy_words-2.ensures (omega arith) (omega arith) (omega arith) (omega arith)

@@ -1,5 +1,4 @@
 -- None of those passed has the guard.
-use Prim.Native.Nat.{◌-◌}
 use Rattle.findings.specs.Scene.{Rows}
 use Rattle.findings.specs.Classes.{guard_of}
 use Rattle.findings.proofs.ClassLaws.{Passed}
@@ -7,6 +6,3 @@ use Rattle.findings.proofs.classes.first_guard.Given as goal
 
 abbrev pub invariant-loop-j : goal.invariant-loop-j
 invariant-loop-j l = Passed guard_of (Rows l.doc l.rows) l.count l.i l.j
-
-abbrev pub decreases-loop-j : goal.decreases-loop-j
-decreases-loop-j l = l.i - l.j

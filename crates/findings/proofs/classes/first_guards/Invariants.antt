@@ -1,5 +1,4 @@
 -- Those passed have their first ones, and the remainders of their prints are seen.
-use Prim.Native.Nat.{◌-◌}
 use Rattle.findings.specs.Scene.{Rows}
 use Rattle.findings.specs.Classes.{guard_of}
 use Rattle.findings.proofs.ClassLaws.{Firsts}
@@ -8,6 +7,3 @@ use Rattle.findings.proofs.classes.first_guards.Given as goal
 
 abbrev pub invariant-loop-i : goal.invariant-loop-i
 invariant-loop-i l = Firsts guard_of (Rows l.doc l.rows) l.count (mark_at l.marks) l.i l.guards l.seen
-
-abbrev pub decreases-loop-i : goal.decreases-loop-i
-decreases-loop-i l = l.count - l.i

@@ -1,11 +1,7 @@
 -- None of those passed is of the kind.
-use Prim.Native.Nat.{◌-◌}
 use Rattle.findings.specs.Classes.{kind_of, Known}
 use Rattle.findings.proofs.ClassLaws.{Passed}
 use Rattle.findings.proofs.classes.first_kind.Given as goal
 
 abbrev pub invariant-loop-j : goal.invariant-loop-j
 invariant-loop-j l = Passed kind_of (Known l.doc l.rows l.prints) l.count l.i l.j
-
-abbrev pub decreases-loop-j : goal.decreases-loop-j
-decreases-loop-j l = l.i - l.j

@@ -1,5 +1,4 @@
 -- Those passed have their first ones, and the remainders of their keys are seen.
-use Prim.Native.Nat.{◌-◌}
 use Rattle.findings.specs.Classes.{kind_of, Known}
 use Rattle.findings.proofs.ClassLaws.{Firsts}
 use Rattle.findings.proofs.FirstLaws.{key_at}
@@ -7,6 +6,3 @@ use Rattle.findings.proofs.classes.first_kinds.Given as goal
 
 abbrev pub invariant-loop-i : goal.invariant-loop-i
 invariant-loop-i l = Firsts kind_of (Known l.doc l.rows l.prints) l.count (key_at l.prints) l.i l.kinds l.seen
-
-abbrev pub decreases-loop-i : goal.decreases-loop-i
-decreases-loop-i l = l.count - l.i

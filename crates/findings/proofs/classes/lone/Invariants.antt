@@ -1,10 +1,6 @@
 -- Of those passed, no two of one kind are marked.
-use Prim.Native.Nat.{◌-◌}
 use Rattle.findings.proofs.LoneLaws.{Unmarking}
 use Rattle.findings.proofs.classes.lone.Given as goal
 
 abbrev pub invariant-loop-i : goal.invariant-loop-i
 invariant-loop-i l = Unmarking l.kinds l.i l.marks
-
-abbrev pub decreases-loop-i : goal.decreases-loop-i
-decreases-loop-i l = l.count - l.i

@@ -1,13 +1,6 @@
-use native.Mathlib.Omega.{arith}
+-- Place by place, by what the function promises.
 use borrow.Author.Rules.{rules}
-use Rattle.findings.proofs.ClassLaws.{filling_start, filling_more, filling_done}
 use Rattle.findings.proofs.classes.print_guards.Goals as goal
 
-pub loop-i-init : goal.loop-i-init
-loop-i-init c = filling_start _ _ _ (omega arith) (search rules)
-
-pub loop-i-preserved : goal.loop-i-preserved
-loop-i-preserved c = search filling_more
-
 pub returns : goal.returns
-returns c = search filling_done
+returns c = record { each = λ k l. let h = c.tabulate.ensures.each k l in search rules }

@@ -7,10 +7,10 @@ pub returns-in_default-clause-notes_variants : goal.returns-in_default-clause-no
 returns-in_default-clause-notes_variants c = search variants_refused
 
 pub loop-j-init : goal.loop-j-init
-loop-j-init c = (omega arith, search walk_few, omega arith, omega arith, search variants_start)
+loop-j-init c = (search walk_few, omega arith, search variants_start)
 
 pub loop-j-preserved : goal.loop-j-preserved
-loop-j-preserved c = (omega arith, omega arith, omega arith, omega arith, search variants_more)
+loop-j-preserved c = (omega arith, omega arith, search variants_more)
 
 pub returns-clause-notes_variants : goal.returns-clause-notes_variants
 returns-clause-notes_variants c = search variants_done

@@ -12,11 +12,11 @@ returns-then-is_literal_false-clause-notes_guard_impossible c = search guard_fal
 pub returns-then-is_literal_false-clause-upper_bound : goal.returns-then-is_literal_false-clause-upper_bound
 returns-then-is_literal_false-clause-upper_bound c = search note_more
 
-pub returns-in-Nothing-clause-notes_guard_impossible : goal.returns-in-Nothing-clause-notes_guard_impossible
-returns-in-Nothing-clause-notes_guard_impossible c = search guard_fine
+pub returns-in-None-clause-notes_guard_impossible : goal.returns-in-None-clause-notes_guard_impossible
+returns-in-None-clause-notes_guard_impossible c = search guard_fine
 
-pub returns-in-Found-clause-notes_guard_impossible : goal.returns-in-Found-clause-notes_guard_impossible
-returns-in-Found-clause-notes_guard_impossible c = search guard_clash
+pub returns-in-Some-clause-notes_guard_impossible : goal.returns-in-Some-clause-notes_guard_impossible
+returns-in-Some-clause-notes_guard_impossible c = search guard_clash
 
-pub returns-in-Found-clause-upper_bound : goal.returns-in-Found-clause-upper_bound
-returns-in-Found-clause-upper_bound c = search note_more
+pub returns-in-Some-clause-upper_bound : goal.returns-in-Some-clause-upper_bound
+returns-in-Some-clause-upper_bound c = search note_more

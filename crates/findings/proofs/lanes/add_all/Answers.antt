@@ -1,14 +1,13 @@
 use mathlib.Core.Path.{refl}
-use native.Mathlib.Omega.{arith}
 use borrow.Author.Rules.{rules}
 use Rattle.typing.proofs.LaneLaws.{lanes_all}
 use Rattle.findings.proofs.lanes.add_all.Goals as goal
 
 pub loop-k-init : goal.loop-k-init
-loop-k-init c = (search rules, refl, omega arith, refl, refl)
+loop-k-init c = (search rules, refl)
 
 pub loop-k-preserved : goal.loop-k-preserved
-loop-k-preserved c = (search rules, search rules, omega arith, omega arith, omega arith)
+loop-k-preserved c = (search rules, search rules)
 
 pub returns : goal.returns
 returns c = search lanes_all

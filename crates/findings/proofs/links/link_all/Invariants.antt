@@ -6,7 +6,4 @@ use Rattle.findings.specs.Links.{Linked}
 use Rattle.findings.proofs.links.link_all.Given as goal
 
 abbrev pub invariant-loop-i : goal.invariant-loop-i
-invariant-loop-i l = (l.i ≤ l.count) × (l.count ≤ 255) × (length l.initial.heads ≡ 256) × (length l.heads ≡ 256) × (length l.links ≡ 256) × Linked l.prints l.count l.i l.heads l.links
-
-abbrev pub decreases-loop-i : goal.decreases-loop-i
-decreases-loop-i l = l.i
+invariant-loop-i l = (l.count ≤ 255) × (length l.initial.heads ≡ 256) × (length l.heads ≡ 256) × (length l.links ≡ 256) × Linked l.prints l.count l.i l.heads l.links

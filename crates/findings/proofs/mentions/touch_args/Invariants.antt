@@ -1,11 +1,6 @@
 -- Argument by argument.
-use mathlib.Core.Path.{◌≡◌}
-use lib.ListN.{length}
 use Rattle.findings.proofs.MentionLaws.{ArgsLeft}
 use Rattle.findings.proofs.mentions.touch_args.Given as goal
 
-abbrev pub invariant-loop-left : goal.invariant-loop-left
-invariant-loop-left l = (length l.marks ≡ length l.initial.marks) × ArgsLeft l.doc l.at l.names l.initial.marks l.left l.k l.marks
-
-abbrev pub decreases-loop-left : goal.decreases-loop-left
-decreases-loop-left l = l.left
+abbrev pub invariant-loop-i : goal.invariant-loop-i
+invariant-loop-i l = ArgsLeft l.vars.doc.now l.at l.vars.names.now l.initial.marks l.count l._i l.k l.marks

@@ -1,11 +1,6 @@
 -- Set by set.
-use mathlib.Core.Path.{◌≡◌}
-use lib.ListN.{length}
 use Rattle.findings.proofs.MentionLaws.{SetsLeft}
 use Rattle.findings.proofs.mentions.touch_sets.Given as goal
 
-abbrev pub invariant-loop-left : goal.invariant-loop-left
-invariant-loop-left l = (length l.marks ≡ length l.initial.marks) × SetsLeft l.doc l.at l.names l.initial.marks l.left l.k l.marks
-
-abbrev pub decreases-loop-left : goal.decreases-loop-left
-decreases-loop-left l = l.left
+abbrev pub invariant-loop-i : goal.invariant-loop-i
+invariant-loop-i l = SetsLeft l.vars.doc.now l.at l.vars.names.now l.initial.marks l.count l._i l.k l.marks

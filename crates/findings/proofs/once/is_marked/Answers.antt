@@ -5,8 +5,8 @@ use Rattle.findings.proofs.once.is_marked.Goals as goal
 pub bounds-own-j : goal.bounds-own-j
 bounds-own-j c = search mark_room
 
-pub returns-in-At : goal.returns-in-At
-returns-in-At c = search mark_found
+pub returns-in-Some : goal.returns-in-Some
+returns-in-Some c = search mark_found
 
-pub returns-in-Nothing : goal.returns-in-Nothing
-returns-in-Nothing c = search mark_none
+pub returns-in-None : goal.returns-in-None
+returns-in-None c = search mark_none

@@ -1,6 +1,4 @@
-use mathlib.Core.Path.{refl}
 use native.Mathlib.Omega.{arith}
-use borrow.Author.Rules.{rules}
 use Rattle.findings.proofs.EachLaws.{walk_start, walk_few}
 use Rattle.findings.proofs.OpeningLaws.{inits_refused, inits_more, inits_done}
 use Rattle.findings.proofs.opening.note_inits.Goals as goal
@@ -9,10 +7,10 @@ pub returns-in_default-clause-notes_inits : goal.returns-in_default-clause-notes
 returns-in_default-clause-notes_inits c = search inits_refused
 
 pub loop-i-init : goal.loop-i-init
-loop-i-init c = (search walk_start, omega arith, search walk_few, omega arith, refl)
+loop-i-init c = (search walk_start, search walk_few, omega arith)
 
 pub loop-i-preserved : goal.loop-i-preserved
-loop-i-preserved c = (search inits_more, omega arith, omega arith, omega arith, search rules)
+loop-i-preserved c = (search inits_more, omega arith, omega arith)
 
 pub returns-clause-notes_inits : goal.returns-clause-notes_inits
 returns-clause-notes_inits c = search inits_done

@@ -1,12 +1,7 @@
 -- What is still to be noted decides, variable by variable.
-use Prim.Native.Nat.{◌+◌, ◌-◌, ◌≤◌}
-use mathlib.Core.Path.{◌≡◌}
-use lib.ListN.{length}
+use Prim.Native.Nat.{◌+◌, ◌≤◌}
 use Rattle.findings.proofs.OpeningLaws.{Inits}
 use Rattle.findings.proofs.opening.note_inits.Given as goal
 
 abbrev pub invariant-loop-i : goal.invariant-loop-i
-invariant-loop-i l = Inits l.doc l.names l.enums l.at l.owner l.initial.out l.skip l.n l.count l.k l.i l.r l.out × (l.i ≤ l.count) × (l.count ≤ 255) × (l.r ≤ l.n + l.i) × (length l.out ≡ length l.initial.out)
-
-abbrev pub decreases-loop-i : goal.decreases-loop-i
-decreases-loop-i l = l.count - l.i
+invariant-loop-i l = Inits l.doc l.names l.enums l.at l.owner l.initial.out l.skip l.n l.count l.k l.i l.r l.out × (l.count ≤ 255) × (l.r ≤ l.n + l.i)

@@ -1,10 +1,6 @@
 -- None of those passed has the key.
-use Prim.Native.Nat.{◌-◌}
 use Rattle.findings.proofs.RivalLaws.{RivalLeft}
 use Rattle.findings.proofs.pairs.has_rival.Given as goal
 
 abbrev pub invariant-loop-j : goal.invariant-loop-j
 invariant-loop-j l = RivalLeft l.prints l.count l.i l.j
-
-abbrev pub decreases-loop-j : goal.decreases-loop-j
-decreases-loop-j l = l.count - l.j

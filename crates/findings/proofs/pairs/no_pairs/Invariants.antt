@@ -4,6 +4,3 @@ use Rattle.findings.proofs.pairs.no_pairs.Given as goal
 
 abbrev pub invariant-loop-i : goal.invariant-loop-i
 invariant-loop-i l = PairsLeft l.prints l.count l.i l.seen
-
-abbrev pub decreases-loop-i : goal.decreases-loop-i
-decreases-loop-i l = l.i

@@ -7,10 +7,10 @@ pub returns-in_default-clause-notes_unled_at : goal.returns-in_default-clause-no
 returns-in_default-clause-notes_unled_at c = search unled_refused
 
 pub loop-j-init : goal.loop-j-init
-loop-j-init c = (omega arith, search walk_few, omega arith, omega arith, search unled_start)
+loop-j-init c = (search walk_few, omega arith, search unled_start)
 
 pub loop-j-preserved : goal.loop-j-preserved
-loop-j-preserved c = (omega arith, omega arith, omega arith, omega arith, search unled_more)
+loop-j-preserved c = (omega arith, omega arith, search unled_more)
 
 pub returns-clause-notes_unled_at : goal.returns-clause-notes_unled_at
 returns-clause-notes_unled_at c = search unled_done

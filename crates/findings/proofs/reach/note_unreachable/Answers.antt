@@ -8,8 +8,8 @@ use Rattle.findings.proofs.reach.note_unreachable.Goals as goal
 pub returns-then-null_at-clause-notes_unreachable : goal.returns-then-null_at-clause-notes_unreachable
 returns-then-null_at-clause-notes_unreachable c = search no_initial
 
-pub walk-requires-clause-queued : goal.walk-requires-clause-queued
-walk-requires-clause-queued c = queued_none _ _ _ refl refl (omega arith)
+pub walk-requires : goal.walk-requires
+walk-requires c = queued_none _ _ _ refl refl (omega arith)
 
 pub returns-clause-notes_unreachable : goal.returns-clause-notes_unreachable
 returns-clause-notes_unreachable c = search unreachable_noted

@@ -2,5 +2,5 @@
 use Rattle.findings.proofs.MoveLaws.{past_pattern}
 use Rattle.findings.proofs.rows.after_pattern.Goals as goal
 
-pub returns-then-end-gt0 : goal.returns-then-end-gt0
-returns-then-end-gt0 c = search past_pattern
+pub returns-in-Some : goal.returns-in-Some
+returns-in-Some c = search (past_pattern, c.in-Some.ensures)

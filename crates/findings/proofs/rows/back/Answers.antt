@@ -1,9 +1,7 @@
--- None of them, or a part to the end.
-use Rattle.findings.proofs.GroupTables.{back_none, back_some}
+use mathlib.Core.Path.{refl, ◌∙◌}
+use Rattle.std.proofs.lemmas.List.{drop_min}
+use Rattle.findings.proofs.GroupTables.{back_some}
 use Rattle.findings.proofs.rows.back.Goals as goal
 
-pub returns-then-end-from : goal.returns-then-end-from
-returns-then-end-from c = search back_none
-
 pub returns : goal.returns
-returns c = search back_some
+returns c = back_some c.args.table.now c.min.result refl ∙ rw c.min.ensures (drop_min c.args.from c.args.table.now)

@@ -5,6 +5,3 @@ use Rattle.findings.proofs.rows.fill_row.Given as goal
 
 abbrev pub invariant-loop-f : goal.invariant-loop-f
 invariant-loop-f l = RowLeft l.doc l.fields l.at l.initial.table l.j (l.fields - l.f) l.k (l.j + l.f) l.table
-
-abbrev pub decreases-loop-f : goal.decreases-loop-f
-decreases-loop-f l = l.fields - l.f

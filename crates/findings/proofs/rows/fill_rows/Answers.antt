@@ -4,11 +4,11 @@ use Rattle.findings.proofs.rows.fill_rows.Goals as goal
 pub returns-in_default : goal.returns-in_default
 returns-in_default c = search rows_refused
 
-pub loop-left-init : goal.loop-left-init
-loop-left-init c = search rows_start
+pub loop-i-init : goal.loop-i-init
+loop-i-init c = search rows_start
 
-pub loop-left-preserved : goal.loop-left-preserved
-loop-left-preserved c = search rows_more
+pub loop-i-preserved : goal.loop-i-preserved
+loop-i-preserved c = search rows_more
 
 pub returns : goal.returns
 returns c = search rows_done

@@ -2,8 +2,5 @@
 use Rattle.findings.proofs.RowLaws.{RowsLeft}
 use Rattle.findings.proofs.rows.fill_rows.Given as goal
 
-abbrev pub invariant-loop-left : goal.invariant-loop-left
-invariant-loop-left l = RowsLeft l.doc l.at l.initial.table l.count l.left l.k l.j l.table
-
-abbrev pub decreases-loop-left : goal.decreases-loop-left
-decreases-loop-left l = l.left
+abbrev pub invariant-loop-i : goal.invariant-loop-i
+invariant-loop-i l = RowsLeft l.doc l.at l.initial.table l.count l.i l.k l.table

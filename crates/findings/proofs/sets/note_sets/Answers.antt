@@ -1,5 +1,4 @@
 use Prim.Native.Nat.{◌≤◌}
-use mathlib.Core.Path.{refl}
 use native.Mathlib.Omega.{arith}
 use Rattle.findings.proofs.EachLaws.{walk_start, walk_few}
 use Rattle.findings.proofs.SetLaws.{sets_refused, sets_more, sets_done}
@@ -9,13 +8,13 @@ pub returns-in_default-clause-notes_sets : goal.returns-in_default-clause-notes_
 returns-in_default-clause-notes_sets c = search sets_refused
 
 pub overflow_cast-many : goal.overflow_cast-many
-overflow_cast-many c = let h : c.in-Got.count ≤ 255 = search walk_few in omega arith
+overflow_cast-many c = let h : c.in-Ok.count ≤ 255 = search walk_few in omega arith
 
 pub loop-j-init : goal.loop-j-init
-loop-j-init c = (search walk_start, omega arith, search walk_few, omega arith, refl)
+loop-j-init c = (search walk_start, search walk_few, omega arith)
 
 pub loop-j-preserved : goal.loop-j-preserved
-loop-j-preserved c = (search sets_more, omega arith, omega arith, omega arith, omega arith)
+loop-j-preserved c = (search sets_more, omega arith, omega arith)
 
 pub returns-clause-notes_sets : goal.returns-clause-notes_sets
 returns-clause-notes_sets c = search sets_done

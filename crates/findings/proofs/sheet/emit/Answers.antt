@@ -2,12 +2,13 @@
 use native.Mathlib.Omega.{arith}
 use Rattle.findings.proofs.NoteLaws.{note_before, note_full, note_one}
 use Rattle.findings.proofs.sheet.emit.Goals as goal
-
-pub returns-then-n-skip : goal.returns-then-n-skip
-returns-then-n-skip c = note_before _ c.if-n-skip.true
-
-pub returns-then-out-at : goal.returns-then-out-at
-returns-then-out-at c = note_full _ (omega arith)
+use Rattle.findings.proofs.sheet.emit.Goals.{then-skip-n+then-n-skip, else-skip-n, else-skip-n-via-then-skip-n+else-n-skip, else-skip-n-via-else-skip-n}
 
 pub returns : goal.returns
-returns c = note_one _ (omega arith) (omega arith) (omega arith) c.write_words.ensures
+returns c = elim c.if-skip-n.branch [
+  | then-skip-n+then-n-skip w ↦ rw w.out-is (note_one _ (omega arith) (omega arith) (omega arith) w.write_words.ensures)
+  | else-skip-n w ↦ rw w.out-is (elim w.else-skip-n.branch [
+    | else-skip-n-via-then-skip-n+else-n-skip w' ↦ note_full _ (omega arith)
+    | else-skip-n-via-else-skip-n w' ↦ note_before _ w'.if-skip-n.false
+  ])
+]

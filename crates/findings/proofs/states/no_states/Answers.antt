@@ -5,8 +5,8 @@ use Rattle.findings.proofs.states.no_states.Goals as goal
 pub returns-in_default : goal.returns-in_default
 returns-in_default c = search states_nothing
 
-pub returns-in-Got : goal.returns-in-Got
-returns-in-Got c = search states_many
+pub returns-in-Ok : goal.returns-in-Ok
+returns-in-Ok c = search states_many
 
-pub returns-in-Refused : goal.returns-in-Refused
-returns-in-Refused c = search states_refused
+pub returns-in-Err : goal.returns-in-Err
+returns-in-Err c = search states_refused

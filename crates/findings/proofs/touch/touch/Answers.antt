@@ -3,8 +3,8 @@ use Rattle.typing.proofs.LaneLaws.{lane_room}
 use Rattle.findings.proofs.TouchLaws.{touching_start, touching_less, touching_more, touching_all}
 use Rattle.findings.proofs.touch.touch.Goals as goal
 
-pub bounds-heads-lane_of : goal.bounds-heads-lane_of
-bounds-heads-lane_of c = search lane_room
+pub bounds-vars-lane_of : goal.bounds-vars-lane_of
+bounds-vars-lane_of c = search lane_room
 
 pub loop-p-init : goal.loop-p-init
 loop-p-init c = (omega arith, search touching_start)

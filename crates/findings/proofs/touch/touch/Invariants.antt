@@ -5,7 +5,7 @@ use Rattle.findings.proofs.TouchLaws.{Touching}
 use Rattle.findings.proofs.touch.touch.Given as goal
 
 abbrev pub invariant-loop-p : goal.invariant-loop-p
-invariant-loop-p l = (length l.marks ≡ length l.initial.marks) × Touching l.doc l.names l.name l.initial.marks l.heads l.p l.marks
+invariant-loop-p l = (length l.marks ≡ length l.initial.marks) × Touching l.vars.doc.now l.vars.names.now l.name l.initial.marks l.vars.heads.now l.p l.marks
 
 abbrev pub decreases-loop-p : goal.decreases-loop-p
 decreases-loop-p l = l.p

@@ -7,10 +7,10 @@ pub returns-in_default-clause-names_filled : goal.returns-in_default-clause-name
 returns-in_default-clause-names_filled c = search names_refused
 
 pub loop-j-init : goal.loop-j-init
-loop-j-init c = (omega arith, search walk_few, omega arith, omega arith, search names_start)
+loop-j-init c = (search walk_few, omega arith, search names_start)
 
 pub loop-j-preserved : goal.loop-j-preserved
-loop-j-preserved c = (omega arith, omega arith, omega arith, omega arith, search names_more)
+loop-j-preserved c = (omega arith, omega arith, search names_more)
 
 pub returns-clause-names_filled : goal.returns-clause-names_filled
 returns-clause-names_filled c = search names_done

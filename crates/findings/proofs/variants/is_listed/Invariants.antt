@@ -1,10 +1,6 @@
 -- None of those passed is the name.
-use Prim.Native.Nat.{◌-◌}
 use Rattle.findings.proofs.VariantLaws.{Looking}
 use Rattle.findings.proofs.variants.is_listed.Given as goal
 
 abbrev pub invariant-loop-j : goal.invariant-loop-j
 invariant-loop-j l = Looking l.doc l.variants l.at l.print l.j
-
-abbrev pub decreases-loop-j : goal.decreases-loop-j
-decreases-loop-j l = l.many - l.j

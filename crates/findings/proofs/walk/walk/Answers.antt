@@ -1,18 +1,8 @@
-use mathlib.Core.Path.{refl}
 use native.Mathlib.Omega.{arith}
 use borrow.Author.Rules.{rules}
 use Rattle.findings.proofs.ReachLaws.{following_start, following_more, following_end}
 use Rattle.findings.proofs.LinkLaws.{linked_links, linked_heads}
 use Rattle.findings.proofs.walk.walk.Goals as goal
-
-pub link_all-requires-clause-heads_value : goal.link_all-requires-clause-heads_value
-link_all-requires-clause-heads_value c = refl
-
-pub start_all-tail-requires-clause-in_bounds : goal.start_all-tail-requires-clause-in_bounds
-start_all-tail-requires-clause-in_bounds c = search rules
-
-pub start_all-tail-requires-clause-queued : goal.start_all-tail-requires-clause-queued
-start_all-tail-requires-clause-queued c = search rules
 
 pub loop-head-init : goal.loop-head-init
 loop-head-init c = (omega arith, omega arith, search following_start, search linked_links, search linked_heads)

@@ -3,10 +3,10 @@ use Rattle.reading.specs.Head.{settled}
 use Rattle.reading.proofs.Answers.{tests}
 use Rattle.reading.proofs.cursor.settle.Goals as goal
 
-pub returns-then-arg-least : goal.returns-then-arg-least
+pub returns-then-argument-least : goal.returns-then-argument-least
 unfolding settled
-returns-then-arg-least c = search tests
+returns-then-argument-least c = search tests
 
-pub returns-else-arg-least : goal.returns-else-arg-least
+pub returns-else-argument-least : goal.returns-else-argument-least
 unfolding settled
-returns-else-arg-least c = search tests
+returns-else-argument-least c = search tests

@@ -1,16 +1,14 @@
--- By the tests on the way.
-use Rattle.reading.proofs.Answers.{tests}
+-- By the range of the first byte.
+use Rattle.std.proofs.Common.{rules}
 use Rattle.reading.specs.Short.{tag_head}
+use Rattle.reading.proofs.Answers.{tests}
+use Rattle.reading.proofs.item.tag_head.Goals.{in-129-to-151, in_default, in_default-2}
 use Rattle.reading.proofs.item.tag_head.Goals as goal
 
-pub returns-in-129-to-151 : goal.returns-in-129-to-151
+pub returns-then-matches : goal.returns-then-matches
 unfolding tag_head
-returns-in-129-to-151 c = search tests
+returns-then-matches c = elim c.if-matches-2.branch [ in-129-to-151 w ↦ search tests | in_default w ↦ search (rules, tests) | in_default-2 w ↦ search (rules, tests) ]
 
-pub returns-in_default : goal.returns-in_default
+pub returns-else-matches : goal.returns-else-matches
 unfolding tag_head
-returns-in_default c = search tests
-
-pub returns-in_default-2 : goal.returns-in_default-2
-unfolding tag_head
-returns-in_default-2 c = search tests
+returns-else-matches c = elim c.if-matches-2.branch [ in-129-to-151 w ↦ search (rules, tests) | in_default w ↦ search (rules, tests) | in_default-2 w ↦ search (rules, tests) ]

@@ -1,12 +1,12 @@
--- By the test.
-use Rattle.reading.proofs.Answers.{tests}
+-- By the major type.
 use Rattle.reading.specs.Items.{inside}
+use Rattle.reading.proofs.Answers.{tests}
 use Rattle.reading.proofs.walk.inside.Goals as goal
 
-pub returns-then-major-eq4 : goal.returns-then-major-eq4
+pub returns-then-head-eq4 : goal.returns-then-head-eq4
 unfolding inside
-returns-then-major-eq4 c = search tests
+returns-then-head-eq4 c = search tests
 
-pub returns : goal.returns
+pub returns-else-head-eq4 : goal.returns-else-head-eq4
 unfolding inside
-returns c = search tests
+returns-else-head-eq4 c = search tests

@@ -1,12 +1,12 @@
--- By the test.
-use Rattle.reading.proofs.Answers.{tests}
+-- By the major type.
 use Rattle.reading.specs.Items.{payload}
+use Rattle.reading.proofs.Answers.{tests}
 use Rattle.reading.proofs.walk.payload.Goals as goal
 
-pub returns-then-major-eq3 : goal.returns-then-major-eq3
+pub returns-then-head-eq3 : goal.returns-then-head-eq3
 unfolding payload
-returns-then-major-eq3 c = search tests
+returns-then-head-eq3 c = search tests
 
-pub returns : goal.returns
+pub returns-else-head-eq3 : goal.returns-else-head-eq3
 unfolding payload
-returns c = search tests
+returns-else-head-eq3 c = search tests

@@ -2,8 +2,8 @@
 use Rattle.text.proofs.BlameLaws.{typed_blame, failed_blame}
 use Rattle.text.proofs.blame.untyped.Goals as goal
 
-pub returns-in-Is : goal.returns-in-Is
-returns-in-Is c = search typed_blame
+pub returns-in-Ok : goal.returns-in-Ok
+returns-in-Ok c = search typed_blame
 
-pub returns-in-Fails : goal.returns-in-Fails
-returns-in-Fails c = search failed_blame
+pub returns-in-Err : goal.returns-in-Err
+returns-in-Err c = search failed_blame

@@ -1,13 +1,7 @@
 -- One text after another.
-use mathlib.Core.Path.{refl}
 use borrow.Author.Rules.{rules}
-use Rattle.typing.specs.Means.{cause_of}
-use Rattle.text.specs.CauseText.{cause_text}
 use Rattle.text.proofs.PutLaws.{◌then◌}
-use Rattle.text.proofs.PieceLaws.{plain}
-use Rattle.text.proofs.CauseLaws.{within, two_told}
 use Rattle.text.proofs.causes.put_widths.Goals as goal
 
 pub returns : goal.returns
-unfolding cause_text cause_of plain
-returns c = record { put = two_told _ (within c.put_bytes-k.ensures c.put_decimal-n.ensures.put c.put_bytes-m.ensures) _ _ (c.put_decimal-z.ensures.put then c.put_bytes.ensures) refl refl refl refl; upper_bound = search rules }
+returns c = record { put = record { put = c.put_bytes-a.ensures then c.put_decimal-b.ensures.put then c.put_bytes-c.ensures then c.put_decimal-d.ensures.put then c.put_bytes.ensures }; upper_bound = search rules }

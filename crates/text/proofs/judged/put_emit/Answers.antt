@@ -1,7 +1,7 @@
 -- By whether there is one, then by its judging.
 use mathlib.Core.Path.{refl}
 use Rattle.text.specs.Message.{site_form}
-use Rattle.text.proofs.PieceLaws.{plain, puts_none}
+use Rattle.text.proofs.PieceLaws.{puts_none}
 use Rattle.text.proofs.SetLaws.{emit_none}
 use Rattle.text.proofs.ListedLaws.{row_form}
 use Rattle.text.proofs.BlamedLaws.{emit_put}
@@ -11,7 +11,7 @@ pub returns-in_default-clause-puts_said : goal.returns-in_default-clause-puts_sa
 returns-in_default-clause-puts_said c = puts_none (search emit_none)
 
 pub put_row-requires-clause-row_form : goal.put_row-requires-clause-row_form
-unfolding site_form plain
+unfolding site_form
 put_row-requires-clause-row_form c = row_form 13 _ refl refl
 
 pub returns-clause-puts_said : goal.returns-clause-puts_said

@@ -1,20 +1,11 @@
-use mathlib.Core.Path.{refl, ap, ◌∙◌}
+-- By whether out reaches so far.
+use mathlib.Core.Path.{sym}
 use native.Mathlib.Omega.{arith}
-use lib.ListN.{length}
-use lib.Seq.{length-sets, take_all}
-use Rattle.text.proofs.PutLaws.{sets_more}
+use Rattle.text.proofs.PutLaws.{sets_out, sets_part}
 use Rattle.text.proofs.out.put_some.Goals as goal
 
-pub loop-i-init : goal.loop-i-init
-loop-i-init c = (omega arith, refl)
+pub returns-then-at-out : goal.returns-then-at-out
+returns-then-at-out c = rw c.copy_from_slice.ensures.after (sets_part _ _ _ (omega arith) c.requires)
 
-pub loop-i-preserved : goal.loop-i-preserved
-loop-i-preserved c = (omega arith, c.store.ensures ∙ rw c.loop-i.invariant.1 (sets_more _ _ _ _ c.loop-i-test.true))
-
-pub shape_of-out : goal.shape_of-out
-shape_of-out c = ap length c.loop-i.invariant.1 ∙ simp length-sets
-
-pub returns : goal.returns
-returns c =
-    let h = c.loop-i-test.false in
-    c.loop-i.invariant.1 ∙ simp take_all
+pub returns-else-at-out : goal.returns-else-at-out
+returns-else-at-out c = sym (sets_out _ c.args.part.now _ c.if-at-out.false)

@@ -1,27 +1,10 @@
--- By the range of the site.
+-- Its form is put.
 use borrow.Author.Rules.{rules}
+use Rattle.text.proofs.SiteLaws.{short_form}
 use Rattle.text.proofs.site.put_site.Goals as goal
 
-pub returns-then-site-le5-clause-put : goal.returns-then-site-le5-clause-put
-returns-then-site-le5-clause-put c = search rules
+pub put_form-requires : goal.put_form-requires
+put_form-requires c = (search rules, search rules, rw c.form_of.ensures (short_form _))
 
-pub returns-then-site-le5-clause-upper_bound : goal.returns-then-site-le5-clause-upper_bound
-returns-then-site-le5-clause-upper_bound c = search rules
-
-pub returns-then-site-le13-clause-put : goal.returns-then-site-le13-clause-put
-returns-then-site-le13-clause-put c = search rules
-
-pub returns-then-site-le13-clause-upper_bound : goal.returns-then-site-le13-clause-upper_bound
-returns-then-site-le13-clause-upper_bound c = search rules
-
-pub returns-then-site-le20-clause-put : goal.returns-then-site-le20-clause-put
-returns-then-site-le20-clause-put c = search rules
-
-pub returns-then-site-le20-clause-upper_bound : goal.returns-then-site-le20-clause-upper_bound
-returns-then-site-le20-clause-upper_bound c = search rules
-
-pub returns-clause-put : goal.returns-clause-put
-returns-clause-put c = search rules
-
-pub returns-clause-upper_bound : goal.returns-clause-upper_bound
-returns-clause-upper_bound c = search rules
+pub returns : goal.returns
+returns c = record { put = rw c.form_of.ensures at c.put_form.ensures.put; upper_bound = search rules }

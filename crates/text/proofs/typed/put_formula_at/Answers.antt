@@ -1,7 +1,7 @@
 -- By whether the table has so many.
 use mathlib.Core.Path.{refl}
 use Rattle.text.specs.Message.{site_form}
-use Rattle.text.proofs.PieceLaws.{plain, puts_none}
+use Rattle.text.proofs.PieceLaws.{puts_none}
 use Rattle.text.proofs.ClaimLaws.{formula_absent}
 use Rattle.text.proofs.ListedLaws.{entry_form}
 use Rattle.text.proofs.BlamedLaws.{formula_put}
@@ -11,7 +11,7 @@ pub returns-then-claims-i-clause-puts_said : goal.returns-then-claims-i-clause-p
 returns-then-claims-i-clause-puts_said c = puts_none (search formula_absent)
 
 pub put_entry-requires-clause-entry_form : goal.put_entry-requires-clause-entry_form
-unfolding site_form plain
+unfolding site_form
 put_entry-requires-clause-entry_form c = entry_form 19 _ _ refl refl refl
 
 pub returns-clause-puts_said : goal.returns-clause-puts_said

@@ -2,8 +2,8 @@
 use Rattle.typing.proofs.EmitLaws.{arg_fine, arg_unfit}
 use Rattle.typing.proofs.args.judge_arg.Goals as goal
 
-pub returns-in-Fine : goal.returns-in-Fine
-returns-in-Fine c = search arg_fine
+pub returns-in-Ok : goal.returns-in-Ok
+returns-in-Ok c = search arg_fine
 
-pub returns-in-Unfit : goal.returns-in-Unfit
-returns-in-Unfit c = search arg_unfit
+pub returns-in-Err : goal.returns-in-Err
+returns-in-Err c = search arg_unfit

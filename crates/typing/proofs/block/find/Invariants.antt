@@ -7,6 +7,3 @@ use Rattle.typing.proofs.block.find.Given as goal
 
 abbrev pub invariant-loop-b : goal.invariant-loop-b
 invariant-loop-b l = (829 * l.b ≤ length l.table) × (find_blocks l.b l.doc l.name l.table ≡ find_in l.doc l.name l.table)
-
-abbrev pub decreases-loop-b : goal.decreases-loop-b
-decreases-loop-b l = l.b

@@ -1,13 +1,6 @@
 -- The print is that of key 0.
-use borrow.Author.Rules.{rules}
 use Rattle.typing.proofs.BlockLaws.{lane_first}
 use Rattle.typing.proofs.block.lane_in_block.Goals as goal
 
 pub returns-then-key-eq0-clause-value : goal.returns-then-key-eq0-clause-value
 returns-then-key-eq0-clause-value c = search lane_first
-
-pub returns-clause-value : goal.returns-clause-value
-returns-clause-value c = search rules
-
-pub returns-clause-upper_bound : goal.returns-clause-upper_bound
-returns-clause-upper_bound c = search rules

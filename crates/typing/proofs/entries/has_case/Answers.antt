@@ -2,8 +2,8 @@
 use Rattle.typing.proofs.EntryLaws.{case_was, case_none}
 use Rattle.typing.proofs.entries.has_case.Goals as goal
 
-pub returns-in-Case : goal.returns-in-Case
-returns-in-Case c = search case_was
+pub returns-in-Ok : goal.returns-in-Ok
+returns-in-Ok c = search case_was
 
-pub returns-in-Refused : goal.returns-in-Refused
-returns-in-Refused c = search case_none
+pub returns-in-Err : goal.returns-in-Err
+returns-in-Err c = search case_none

@@ -2,8 +2,8 @@
 use Rattle.typing.proofs.FieldLaws.{fits_fine, fits_not}
 use Rattle.typing.proofs.field.field_fits.Goals as goal
 
-pub returns-in-Fine : goal.returns-in-Fine
-returns-in-Fine c = search fits_fine
+pub returns-in-Ok : goal.returns-in-Ok
+returns-in-Ok c = search fits_fine
 
-pub returns-in-Unfit : goal.returns-in-Unfit
-returns-in-Unfit c = search fits_not
+pub returns-in-Err : goal.returns-in-Err
+returns-in-Err c = search fits_not

@@ -5,8 +5,8 @@ use Rattle.typing.proofs.field.named_among.Goals as goal
 pub returns-then-null_at : goal.returns-then-null_at
 returns-then-null_at c = search among_null
 
-pub returns-in-At : goal.returns-in-At
-returns-in-At c = search among_found
+pub returns-in-Some : goal.returns-in-Some
+returns-in-Some c = search among_found
 
-pub returns-in-Nothing : goal.returns-in-Nothing
-returns-in-Nothing c = search among_not
+pub returns-in-None : goal.returns-in-None
+returns-in-None c = search among_not

@@ -2,8 +2,8 @@
 use Rattle.typing.proofs.TableLaws.{head_to, head_out}
 use Rattle.typing.proofs.fill.after_head.Goals as goal
 
-pub returns-in-Got : goal.returns-in-Got
-returns-in-Got c = search head_to
+pub returns-in-Ok : goal.returns-in-Ok
+returns-in-Ok c = search head_to
 
-pub returns-in-Refused : goal.returns-in-Refused
-returns-in-Refused c = search head_out
+pub returns-in-Err : goal.returns-in-Err
+returns-in-Err c = search head_out

@@ -1,17 +1,13 @@
+use mathlib.Core.Path.{◌∙◌, sym, refl}
 use native.Mathlib.Omega.{arith}
-use borrow.Author.Rules.{rules}
-use lib.ListN.{length-set}
-use Rattle.typing.proofs.LaneLaws.{empty_start, empty_more, empty_all}
+use Rattle.std.proofs.lemmas.List.{length-take-le}
+use Rattle.typing.proofs.LaneLaws.{cleared}
 use Rattle.typing.proofs.lanes.clear_heads.Goals as goal
 
-pub loop-h-init : goal.loop-h-init
-loop-h-init c = (search rules, omega arith, search empty_start)
-
-pub loop-h-preserved : goal.loop-h-preserved
-loop-h-preserved c = (simp length-set (omega arith), omega arith, search empty_more)
-
-pub shape_of-heads : goal.shape_of-heads
-shape_of-heads c = simp length-set (omega arith)
+pub slice_bounds-fill-end-2 : goal.slice_bounds-fill-end-2
+slice_bounds-fill-end-2 c = sym (length-take-le 1024 c.args.heads.now (omega arith))
 
 pub returns : goal.returns
-returns c = search empty_all
+returns c =
+    let n = length-take-le 1024 c.args.heads.now (omega arith) in
+    cleared c.args.heads.now c.args.key _ c.requires (c.fill.ensures.len ∙ n) (λ h l. c.fill.ensures.clones h 0 (omega arith) refl)

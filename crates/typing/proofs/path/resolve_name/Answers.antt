@@ -5,8 +5,8 @@ use Rattle.typing.proofs.path.resolve_name.Goals as goal
 pub returns-then-same : goal.returns-then-same
 returns-then-same c = search name_state
 
-pub returns-in-At : goal.returns-in-At
-returns-in-At c = search name_found_lem
+pub returns-in-Some : goal.returns-in-Some
+returns-in-Some c = search name_found_lem
 
-pub returns-in-Nothing : goal.returns-in-Nothing
-returns-in-Nothing c = search name_other
+pub returns-in-None : goal.returns-in-None
+returns-in-None c = search name_other

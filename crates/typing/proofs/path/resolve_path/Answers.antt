@@ -12,5 +12,5 @@ returns-in-0 c = search path_empty
 pub returns-in-1 : goal.returns-in-1
 returns-in-1 c = search path_one
 
-pub returns-in-2-to-18446744073709551615 : goal.returns-in-2-to-18446744073709551615
-returns-in-2-to-18446744073709551615 c = path_long _ _ _ _ _ c.count-r.ensures c.in-Got.is _ (λ i. omega (arith, c.type_inv.doc i)) c.in-2-to-18446744073709551615.in-2-to-18446744073709551615-own.rest.0.1 c.in-2-to-18446744073709551615.in-2-to-18446744073709551615-own.rest.1 c.resolve_variant.ensures
+pub returns-in_default-segments : goal.returns-in_default-segments
+returns-in_default-segments c = path_long _ _ _ _ _ c.count-r.ensures c.in-Ok.is _ (λ i. omega (arith, c.type_inv.doc i)) (omega arith) (omega arith) c.resolve_variant.ensures

@@ -1,5 +1,5 @@
 -- By the case that stands there.
-use Rattle.reading.proofs.Arms.{beyond}
+use native.Mathlib.Omega.{arith}
 use Rattle.typing.proofs.AcceptLaws.{accepts_none, accepts_wildcard, accepts_bind, accepts_int, accepts_bool, accepts_path, accepts_beyond}
 use Rattle.typing.proofs.pattern.pattern_expr_compatible.Goals as goal
 
@@ -21,5 +21,5 @@ returns-in-3 c = search accepts_bool
 pub returns-in-4 : goal.returns-in-4
 returns-in-4 c = search accepts_path
 
-pub returns-in-5-to-18446744073709551615 : goal.returns-in-5-to-18446744073709551615
-returns-in-5-to-18446744073709551615 c = accepts_beyond _ _ _ c.tag-t.ensures c.in-Case.is _ (beyond 5 _ c.in-5-to-18446744073709551615.in-5-to-18446744073709551615-own.rest)
+pub returns-in_default-case : goal.returns-in_default-case
+returns-in_default-case c = accepts_beyond _ _ _ c.tag-t.ensures c.in-Ok.is _ (omega arith)

@@ -1,27 +1,14 @@
 -- By the operator, and what its types are.
-use Rattle.typing.proofs.QuickLaws.{makes_logic, makes_unknown, makes_bool, makes_bits}
+use Prim.Native.Nat.{◌<◌, ◌≤◌}
+use native.Mathlib.Omega.{arith}
+use Rattle.typing.proofs.QuickLaws.{makes_logic, makes_bool, makes_bits}
 use Rattle.typing.proofs.quick.quick_type.Goals as goal
 
-pub returns-then-b-eq0 : goal.returns-then-b-eq0
-returns-then-b-eq0 c = search makes_logic
+pub returns-in-0-to-2 : goal.returns-in-0-to-2
+returns-in-0-to-2 c = search makes_bits
 
-pub returns-else-b-eq0 : goal.returns-else-b-eq0
-returns-else-b-eq0 c = search makes_unknown
+pub returns-in-5-to-10 : goal.returns-in-5-to-10
+returns-in-5-to-10 c = let l : 4 < c.args.op = omega arith in let h : c.args.op ≤ 10 = omega arith in search makes_bool
 
-pub returns-else-a-eq0 : goal.returns-else-a-eq0
-returns-else-a-eq0 c = search makes_unknown
-
-pub returns-then-op-gt10 : goal.returns-then-op-gt10
-returns-then-op-gt10 c = search makes_unknown
-
-pub returns-then-op-gt4 : goal.returns-then-op-gt4
-returns-then-op-gt4 c = search makes_bool
-
-pub returns-then-op-lt3 : goal.returns-then-op-lt3
-returns-then-op-lt3 c = search makes_bits
-
-pub returns-else-op-lt3 : goal.returns-else-op-lt3
-returns-else-op-lt3 c = search makes_unknown
-
-pub returns-else-alike : goal.returns-else-alike
-returns-else-alike c = search makes_unknown
+pub returns-in-14-to-18446744073709551615 : goal.returns-in-14-to-18446744073709551615
+returns-in-14-to-18446744073709551615 c = search makes_logic

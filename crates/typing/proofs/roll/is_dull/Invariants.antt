@@ -1,9 +1,5 @@
 -- A count that is made one more is at most 11.
-use Prim.Native.Nat.{◌-◌}
 use Rattle.typing.proofs.roll.is_dull.Given as goal
 
 abbrev pub invariant-loop-i : goal.invariant-loop-i
 invariant-loop-i l = Unit {0}
-
-abbrev pub decreases-loop-i : goal.decreases-loop-i
-decreases-loop-i l = l.n - l.i

@@ -4,6 +4,3 @@ use Rattle.typing.proofs.roll.link_items.Given as goal
 
 abbrev pub invariant-loop-i : goal.invariant-loop-i
 invariant-loop-i l = Linking l.table l.o l.n l.i l.hints l.nexts
-
-abbrev pub decreases-loop-i : goal.decreases-loop-i
-decreases-loop-i l = l.i

@@ -1,10 +1,6 @@
 -- Item by item: those before item i are put, and it stands at place k.
-use Prim.Native.Nat.{◌-◌}
 use Rattle.typing.proofs.RollLaws.{Listing}
 use Rattle.typing.proofs.roll.put_items.Given as goal
 
 abbrev pub invariant-loop-i : goal.invariant-loop-i
 invariant-loop-i l = Listing l.tagged l.doc l.key l.first l.many l.initial.table l.q l.i l.k l.table
-
-abbrev pub decreases-loop-i : goal.decreases-loop-i
-decreases-loop-i l = l.many - l.i

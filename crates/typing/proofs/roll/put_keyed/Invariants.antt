@@ -1,10 +1,6 @@
 -- Each key leaves a roll.
-use Prim.Native.Nat.{◌-◌, ◌≤◌}
 use Rattle.typing.specs.Rolls.{PutsKeyed}
 use Rattle.typing.proofs.roll.put_keyed.Given as goal
 
 abbrev pub invariant-loop-key : goal.invariant-loop-key
-invariant-loop-key l = PutsKeyed l.tagged l.doc l.first l.many l.initial.table l.q l.table × (l.key ≤ 7)
-
-abbrev pub decreases-loop-key : goal.decreases-loop-key
-decreases-loop-key l = 7 - l.key
+invariant-loop-key l = PutsKeyed l.tagged l.doc l.first l.many l.initial.table l.q l.table

@@ -18,5 +18,5 @@ returns-in-3-to-4 c = rw (op_shift c.args.op (omega arith) (omega arith)) c.shif
 pub returns-in-5-to-10 : goal.returns-in-5-to-10
 returns-in-5-to-10 c = rw (op_compare c.args.op (omega arith) (omega arith)) c.compare_type.ensures
 
-pub returns-in-14-to-18446744073709551615 : goal.returns-in-14-to-18446744073709551615
-returns-in-14-to-18446744073709551615 c = rw (op_last c.args.op (omega arith) c.in-14-to-18446744073709551615.in_default-own.rest.0.1 c.in-14-to-18446744073709551615.in_default-own.rest.1) c.logic_type.ensures
+pub returns-in_default : goal.returns-in_default
+returns-in_default c = rw (op_last c.args.op (omega arith) (omega arith) (omega arith)) c.logic_type.ensures

@@ -14,10 +14,10 @@ pub returns-in_default : goal.returns-in_default
 returns-in_default c = search segment_stops
 
 pub overflow_mul-table : goal.overflow_mul-table
-overflow_mul-table c = let l : c.in-At.key < 8 = search key_small in omega arith
+overflow_mul-table c = let l : c.in-Some.key < 8 = search key_small in omega arith
 
 pub overflow_add-table : goal.overflow_add-table
-overflow_add-table c = let l : c.in-At.key < 8 = search key_small in omega arith
+overflow_add-table c = let l : c.in-Some.key < 8 = search key_small in omega arith
 
 pub returns : goal.returns
 returns c = search segment_done

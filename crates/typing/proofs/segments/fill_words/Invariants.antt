@@ -1,9 +1,7 @@
--- The words so far, and the names from place k on, have all names.
+-- What is put so far, and what is left, is the whole.
+use Prim.Native.Nat.{◌-◌, ◌*◌}
 use Rattle.typing.proofs.SegmentLaws.{Filling}
 use Rattle.typing.proofs.segments.fill_words.Given as goal
 
-abbrev pub invariant-loop-left : goal.invariant-loop-left
-invariant-loop-left l = Filling l.key l.doc l.first l.many l.initial.table l.q l.j l.k l.left l.table
-
-abbrev pub decreases-loop-left : goal.decreases-loop-left
-decreases-loop-left l = l.left
+abbrev pub invariant-loop-j : goal.invariant-loop-j
+invariant-loop-j l = Filling l.key l.doc l.first l.many l.initial.table l.q l.j l.k (l.many - 6 * l.j) l.table

@@ -1,10 +1,8 @@
 -- The names that are left of the word decide.
+use Prim.Native.Nat.{◌-◌}
 use mathlib.Core.Path.{◌≡◌}
 use Rattle.typing.specs.Segments.{named_by, word_has}
 use Rattle.typing.proofs.segments.in_word.Given as goal
 
-abbrev pub invariant-loop-left : goal.invariant-loop-left
-invariant-loop-left l = named_by l.left l.doc l.name l.m l.rest l.at ≡ word_has l.doc l.name l.m l.w
-
-abbrev pub decreases-loop-left : goal.decreases-loop-left
-decreases-loop-left l = l.left
+abbrev pub invariant-loop : goal.invariant-loop
+invariant-loop l = named_by (6 - l.counter) l.doc l.name l.m l.rest l.at ≡ word_has l.doc l.name l.m l.w

@@ -5,8 +5,5 @@ use lib.ListN.{length}
 use Rattle.typing.specs.Segments.{among}
 use Rattle.typing.proofs.segments.in_words.Given as goal
 
-abbrev pub invariant-loop-left : goal.invariant-loop-left
-invariant-loop-left l = (l.q + l.left ≤ length l.table) × (among l.left l.doc l.name l.m l.table l.q ≡ among l.many l.doc l.name l.m l.table l.q)
-
-abbrev pub decreases-loop-left : goal.decreases-loop-left
-decreases-loop-left l = l.left
+abbrev pub invariant-loop-i : goal.invariant-loop-i
+invariant-loop-i l = (l.q + l.i ≤ length l.table) × (among l.i l.doc l.name l.m l.table l.q ≡ among l.many l.doc l.name l.m l.table l.q)

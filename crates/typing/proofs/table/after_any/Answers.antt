@@ -3,8 +3,8 @@ use Rattle.typing.proofs.TableLaws.{after_to, after_out}
 use native.Mathlib.Omega.{arith}
 use Rattle.typing.proofs.table.after_any.Goals as goal
 
-pub returns-in-To : goal.returns-in-To
-returns-in-To c = record { is = search after_to; each = λ i. omega (arith, c.type_inv.doc i) }
+pub returns-in-Ok : goal.returns-in-Ok
+returns-in-Ok c = record { is = search after_to; each = λ i. omega (arith, c.type_inv.doc i) }
 
-pub returns-in-Refused : goal.returns-in-Refused
-returns-in-Refused c = record { is = search after_out; each = λ i. omega (arith, c.type_inv.doc i) }
+pub returns-in-Err : goal.returns-in-Err
+returns-in-Err c = record { is = search after_out; each = λ i. omega (arith, c.type_inv.doc i) }

@@ -2,5 +2,5 @@
 use Rattle.typing.proofs.ShortLaws.{stops_past}
 use Rattle.typing.proofs.table.after_case.Goals as goal
 
-pub returns-in-At : goal.returns-in-At
-returns-in-At c = search stops_past
+pub returns-in-Some : goal.returns-in-Some
+returns-in-Some c = search stops_past

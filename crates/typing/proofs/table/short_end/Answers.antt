@@ -1,5 +1,5 @@
 -- By the first byte.
-use Rattle.typing.proofs.ShortLaws.{stops_number, stops_empty, stops_simple, stops_name, stops_nowhere}
+use Rattle.typing.proofs.ShortLaws.{stops_number, stops_empty, stops_simple, stops_name}
 use Rattle.typing.proofs.table.short_end.Goals as goal
 
 pub returns-then-n-doc : goal.returns-then-n-doc
@@ -13,12 +13,3 @@ returns-then-b c = search stops_empty
 
 pub returns-then-b-lt247 : goal.returns-then-b-lt247
 returns-then-b-lt247 c = search stops_simple
-
-pub returns-else-b-lt247 : goal.returns-else-b-lt247
-returns-else-b-lt247 c = search stops_nowhere
-
-pub returns-else-b-gt243 : goal.returns-else-b-gt243
-returns-else-b-gt243 c = search stops_nowhere
-
-pub returns-else-at-doc : goal.returns-else-at-doc
-returns-else-at-doc c = search stops_nowhere

@@ -7,7 +7,7 @@ pub returns-in_default : goal.returns-in_default
 returns-in_default c = search width_none
 
 pub overflow_cast-result : goal.overflow_cast-result
-overflow_cast-result c = omega (arith, width_small _ _ c.number-r.ensures c.in-Got.is)
+overflow_cast-result c = omega (arith, width_small _ _ c.number-r.ensures c.in-Ok.is)
 
 pub returns : goal.returns
 returns c = search width_is

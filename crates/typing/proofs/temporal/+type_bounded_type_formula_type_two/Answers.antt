@@ -1,3 +1,5 @@
+use Rattle.std.specs.Prelude.{◌≡◌, Err}
+use borrow.Author.Rules.{rules}
 use Rattle.typing.proofs.JudgeLaws.{formula_deep, formula_no_tag, formula_input, formula_output, formula_expression, formula_one, formula_always, formula_sometime, formula_two, formula_unknown, bounded_none, bounded_goes, two_fails, two_goes}
 use Rattle.typing.proofs.temporal.+type_bounded_type_formula_type_two.Goals as goal
 
@@ -37,8 +39,8 @@ type_formula-returns-in-Two t c = search formula_two
 pub type_formula-returns-in-Unknown : goal.type_formula-returns-in-Unknown
 type_formula-returns-in-Unknown t c = search formula_unknown
 
-pub type_two-returns-in_default : goal.type_two-returns-in_default
-type_two-returns-in_default t c = search two_fails
+pub type_two-returns-in_err-type_formula : goal.type_two-returns-in_err-type_formula
+type_two-returns-in_err-type_formula t c = let e : c.from_residual.result ≡ Err c.in_err-type_formula.field-0.0 = search rules in search (two_fails, c.in_err-type_formula.was)
 
 pub type_two-returns : goal.type_two-returns
-type_two-returns t c = search two_goes
+type_two-returns t c = search (two_goes, c.in_ok-type_formula.was)

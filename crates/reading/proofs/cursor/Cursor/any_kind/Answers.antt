@@ -1,16 +1,17 @@
 -- By the tests on the way.
-use Rattle.reading.proofs.Answers.{tests, hd, hd_out}
+use Rattle.std.proofs.Common.{rules}
 use Rattle.reading.specs.Item.{read_kind}
+use Rattle.reading.proofs.Answers.{tests, got, out}
 use Rattle.reading.proofs.cursor.Cursor.any_kind.Goals as goal
 
-pub returns-then-major-due : goal.returns-then-major-due
+pub returns-in_err-head : goal.returns-in_err-head
 unfolding read_kind
-returns-then-major-due c = search (tests, hd _ c.head-h.ensures c.in-Item.is)
+returns-in_err-head c = search (rules, tests, out _ c.head.ensures c.in_err-head.was)
 
-pub returns-else-major-due : goal.returns-else-major-due
+pub returns-then-head-due : goal.returns-then-head-due
 unfolding read_kind
-returns-else-major-due c = search (tests, hd _ c.head-h.ensures c.in-Item.is)
+returns-then-head-due c = search (tests, got _ c.head.ensures c.in_ok-head.was)
 
-pub returns-in-Refused : goal.returns-in-Refused
+pub returns-else-head-due : goal.returns-else-head-due
 unfolding read_kind
-returns-in-Refused c = search (tests, hd_out _ c.head-h.ensures c.in-Refused.is)
+returns-else-head-due c = search (tests, got _ c.head.ensures c.in_ok-head.was)

@@ -1,20 +1,21 @@
--- By the tests on the way: the array, then the case number.
-use Rattle.reading.proofs.Answers.{tests, num, out}
+-- The array, then the case number.
+use Rattle.std.proofs.Common.{rules}
 use Rattle.reading.specs.Item.{read_tag}
+use Rattle.reading.proofs.Answers.{tests, got, out}
 use Rattle.reading.proofs.cursor.Cursor.any_tag.Goals as goal
+
+pub returns-in_err-count : goal.returns-in_err-count
+unfolding read_tag
+returns-in_err-count c = search (rules, tests, out _ c.kind.ensures c.in_err-count.was)
 
 pub returns-then-count-eq0 : goal.returns-then-count-eq0
 unfolding read_tag
-returns-then-count-eq0 c = search (tests, num _ c.kind-r.ensures c.in-Got.is)
+returns-then-count-eq0 c = search (tests, got _ c.kind.ensures c.in_ok-count.was)
 
-pub returns-in-Got-k : goal.returns-in-Got-k
+pub returns-in_err-case : goal.returns-in_err-case
 unfolding read_tag
-returns-in-Got-k c = search (tests, num _ c.kind-k.ensures c.in-Got-k.is, num _ c.kind-r.ensures c.in-Got.is)
+returns-in_err-case c = search (rules, tests, out _ c.kind-2.ensures c.in_err-case.was, got _ c.kind.ensures c.in_ok-count.was)
 
-pub returns-in-Refused-k : goal.returns-in-Refused-k
+pub returns : goal.returns
 unfolding read_tag
-returns-in-Refused-k c = search (tests, out _ c.kind-k.ensures c.in-Refused-k.is, num _ c.kind-r.ensures c.in-Got.is)
-
-pub returns-in-Refused : goal.returns-in-Refused
-unfolding read_tag
-returns-in-Refused c = search (tests, out _ c.kind-r.ensures c.in-Refused.is)
+returns c = search (tests, got _ c.kind-2.ensures c.in_ok-case.was, got _ c.kind.ensures c.in_ok-count.was)

@@ -1,16 +1,17 @@
 -- By the tests on the way.
-use Rattle.reading.proofs.Answers.{tests, num, out}
+use Rattle.std.proofs.Common.{rules}
 use Rattle.reading.specs.Item.{read_case}
+use Rattle.reading.proofs.Answers.{tests, got, out}
 use Rattle.reading.proofs.cursor.Cursor.case_number.Goals as goal
 
-pub returns-in_default : goal.returns-in_default
+pub returns-in_err-case : goal.returns-in_err-case
 unfolding read_case
-returns-in_default c = search (tests, out _ c.kind-r.ensures c.in_default.is)
+returns-in_err-case c = search (rules, tests, out _ c.kind.ensures c.in_err-case.was)
 
 pub returns-then-case-cases : goal.returns-then-case-cases
 unfolding read_case
-returns-then-case-cases c = search (tests, num _ c.kind-r.ensures c.in-Got.is)
+returns-then-case-cases c = search (tests, got _ c.kind.ensures c.in_ok-case.was)
 
 pub returns : goal.returns
 unfolding read_case
-returns c = search (tests, num _ c.kind-r.ensures c.in-Got.is)
+returns c = search (tests, got _ c.kind.ensures c.in_ok-case.was)

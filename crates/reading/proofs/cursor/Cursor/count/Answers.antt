@@ -1,16 +1,17 @@
 -- By the tests on the way.
-use Rattle.reading.proofs.Answers.{tests, num, out}
+use Rattle.std.proofs.Common.{rules}
 use Rattle.reading.specs.Item.{read_count}
+use Rattle.reading.proofs.Answers.{tests, got, out}
 use Rattle.reading.proofs.cursor.Cursor.count.Goals as goal
 
-pub returns-in_default : goal.returns-in_default
+pub returns-in_err-entries : goal.returns-in_err-entries
 unfolding read_count
-returns-in_default c = search (tests, out _ c.kind-r.ensures c.in_default.is)
+returns-in_err-entries c = search (rules, tests, out _ c.kind.ensures c.in_err-entries.was)
 
 pub returns-then-limit-entries : goal.returns-then-limit-entries
 unfolding read_count
-returns-then-limit-entries c = search (tests, num _ c.kind-r.ensures c.in-Got.is)
+returns-then-limit-entries c = search (tests, got _ c.kind.ensures c.in_ok-entries.was)
 
 pub returns : goal.returns
 unfolding read_count
-returns c = search (tests, num _ c.kind-r.ensures c.in-Got.is)
+returns c = search (tests, got _ c.kind.ensures c.in_ok-entries.was)

@@ -1,16 +1,17 @@
 -- By the tests on the way.
-use Rattle.reading.proofs.Answers.{tests, num, out}
+use Rattle.std.proofs.Common.{rules}
 use Rattle.reading.specs.Item.{read_fields}
+use Rattle.reading.proofs.Answers.{tests, got, out}
 use Rattle.reading.proofs.cursor.Cursor.fields.Goals as goal
+
+pub returns-in_err-count : goal.returns-in_err-count
+unfolding read_fields
+returns-in_err-count c = search (rules, tests, out _ c.kind.ensures c.in_err-count.was)
 
 pub returns-then-count-fields : goal.returns-then-count-fields
 unfolding read_fields
-returns-then-count-fields c = search (tests, num _ c.kind-r.ensures c.in-Got.is)
+returns-then-count-fields c = search (tests, got _ c.kind.ensures c.in_ok-count.was)
 
 pub returns-else-count-fields : goal.returns-else-count-fields
 unfolding read_fields
-returns-else-count-fields c = search (tests, num _ c.kind-r.ensures c.in-Got.is)
-
-pub returns-in-Refused : goal.returns-in-Refused
-unfolding read_fields
-returns-in-Refused c = search (tests, out _ c.kind-r.ensures c.in-Refused.is)
+returns-else-count-fields c = search (tests, got _ c.kind.ensures c.in_ok-count.was)

@@ -4,8 +4,8 @@ use Rattle.reading.specs.Link.{least_of, alphabet_of}
 use Rattle.reading.proofs.Short.{name_read}
 use Rattle.reading.proofs.cursor.Cursor.name.Goals as goal
 
-pub returns-then-all_name_bytes : goal.returns-then-all_name_bytes
-returns-then-all_name_bytes c = search name_read
+pub returns-then-all_of : goal.returns-then-all_of
+returns-then-all_of c = search name_read
 
 pub returns : goal.returns
 unfolding read_name least_of alphabet_of

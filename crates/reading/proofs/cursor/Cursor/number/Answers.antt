@@ -1,16 +1,17 @@
 -- By the tests on the way.
-use Rattle.reading.proofs.Answers.{tests, num, out}
+use Rattle.std.proofs.Common.{rules}
 use Rattle.reading.specs.Item.{read_number}
+use Rattle.reading.proofs.Answers.{tests, got, out}
 use Rattle.reading.proofs.cursor.Cursor.number.Goals as goal
 
-pub returns-in_default : goal.returns-in_default
+pub returns-in_err-value : goal.returns-in_err-value
 unfolding read_number
-returns-in_default c = search (tests, out _ c.kind-r.ensures c.in_default.is)
+returns-in_err-value c = search (rules, tests, out _ c.kind.ensures c.in_err-value.was)
 
 pub returns-then-limit-value : goal.returns-then-limit-value
 unfolding read_number
-returns-then-limit-value c = search (tests, num _ c.kind-r.ensures c.in-Got.is)
+returns-then-limit-value c = search (tests, got _ c.kind.ensures c.in_ok-value.was)
 
 pub returns : goal.returns
 unfolding read_number
-returns c = search (tests, num _ c.kind-r.ensures c.in-Got.is)
+returns c = search (tests, got _ c.kind.ensures c.in_ok-value.was)

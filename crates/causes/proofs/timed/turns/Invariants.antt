@@ -1,9 +1,0 @@
--- The turns are counted; the space keeps its length.
-use Rattle.std.proofs.Common.{length, ◌-◌, ◌≡◌}
-use Rattle.causes.proofs.timed.turns.Given as goal
-
-abbrev pub invariant-loop-i : goal.invariant-loop-i
-invariant-loop-i l = length l.space ≡ length l.initial.space
-
-abbrev pub decreases-loop-i : goal.decreases-loop-i
-decreases-loop-i l = l.n - l.i

@@ -1,6 +1,0 @@
--- Past the end there is no word.
-use Rattle.typing.proofs.RollLaws.{past_end}
-use Rattle.offercheck.proofs.line.word_at.Goals as goal
-
-pub returns : goal.returns
-returns c = search past_end

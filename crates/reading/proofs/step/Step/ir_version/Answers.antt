@@ -1,9 +1,0 @@
--- Read at the cursor, and the number dropped.
-use Rattle.reading.proofs.Threads.{number_step, onward_out}
-use Rattle.reading.proofs.step.Step.ir_version.Goals as goal
-
-pub returns-in-To : goal.returns-in-To
-returns-in-To c = search number_step
-
-pub returns-in-Refused : goal.returns-in-Refused
-returns-in-Refused c = search onward_out

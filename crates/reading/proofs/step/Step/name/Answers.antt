@@ -1,9 +1,0 @@
--- Read at the cursor, and the length dropped.
-use Rattle.reading.proofs.Threads.{content_step, onward_out}
-use Rattle.reading.proofs.step.Step.name.Goals as goal
-
-pub returns-in-To : goal.returns-in-To
-returns-in-To c = search content_step
-
-pub returns-in-Refused : goal.returns-in-Refused
-returns-in-Refused c = search onward_out

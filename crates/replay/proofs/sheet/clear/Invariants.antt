@@ -1,9 +1,0 @@
--- The words passed are counted; the words keep their number.
-use Rattle.std.proofs.Common.{length, ◌-◌, ◌≡◌}
-use Rattle.replay.proofs.sheet.clear.Given as goal
-
-abbrev pub invariant-loop-k : goal.invariant-loop-k
-invariant-loop-k l = length l.words ≡ length l.initial.words
-
-abbrev pub decreases-loop-k : goal.decreases-loop-k
-decreases-loop-k l = length l.initial.words - l.k

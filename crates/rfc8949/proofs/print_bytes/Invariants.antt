@@ -1,9 +1,0 @@
--- The bytes passed are counted.
-use Rattle.std.proofs.Common.{length, ◌-◌, ◌≤◌}
-use Rattle.rfc8949.proofs.print_bytes.Given as goal
-
-abbrev pub invariant-loop-i : goal.invariant-loop-i
-invariant-loop-i l = l.i ≤ length l.bytes
-
-abbrev pub decreases-loop-i : goal.decreases-loop-i
-decreases-loop-i l = length l.bytes - l.i
