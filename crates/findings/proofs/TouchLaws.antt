@@ -31,7 +31,6 @@ use Rattle.typing.specs.Names.{eq_name, member}
 use Rattle.typing.specs.Lanes.{lane_by, lane_of, key_of, Lanes}
 use Rattle.typing.specs.Tells.{Ends}
 use Rattle.typing.specs.Table.{Past}
-use Rattle.typing.proofs.TableLaws.{tag_out}
 use Rattle.typing.proofs.LaneLaws.{lane_small, lane_apart}
 use Rattle.typing.proofs.EnvLaws.{entry, after_is}
 use Rattle.typing.proofs.TypeLaws.{fields_are}
@@ -260,7 +259,7 @@ module _ (d : ℕ) (s : List ℕ) (at : ℕ) (names m : List ℕ) (r : ℕ) (m' 
           let k : d ≡ suc (d - 1) = omega arith in
           let v = expr_at (d - 1) s at x n (ap (λ (i : ℕ). read_expr i s at) (sym k) ∙ g) in
           let u = v.tagged in
-          let w = tag_out _ e q in
+          let w = out _ e q in
           no (cc)
 
 -- by the case

@@ -1,5 +1,5 @@
 -- What each step of the judging of a pattern's field gives, for whatever reads there.
-use Rattle.std.specs.Prelude.{Option, Some, None, Ok, Err}
+use Rattle.std.specs.Prelude.{Option, Some, None, Ok, Err, Result}
 use Prim.Native.Nat.{ℕ, ◌<◌, ◌≤◌}
 use mathlib.Core.Path.{◌≡◌, refl, sym, ap, ◌∙◌}
 use mathlib.Core.Bool.{Bool, true, false}
@@ -37,10 +37,8 @@ use Rattle.typing.specs.Accepts.{int_on, bool_on, enum_name, name_found, EnumOf,
 use Rattle.typing.specs.declared.ty.Ty.{Ty as CodeTy}
 use Rattle.typing.specs.declared.ty.Ty.TheVariants as ty
 use Rattle.typing.specs.declared.cause.Cause.TheVariants.{IntegerOnBool, IntegerOnEnum, DoesNotFit, VariantOnNonEnum, VariantPath}
-use Rattle.typing.proofs.TableLaws.{tag_was, tag_out}
 use Rattle.typing.proofs.EnvLaws.{entry, type_is}
 -- an integer literal
-use Rattle.std.specs.Prelude.{Result}
 use Rattle.reading.specs.declared.fault.Refusal.{Refusal}
 
 module _ (s : List ℕ) (at : ℕ) (τ : CodeTy) {a : Result (ℕ × Cursor) Refusal} (e : a ≡ answer (read_number max_u64 s at)) where
@@ -122,12 +120,12 @@ module _ (s : List ℕ) (at : ℕ) (w : Name) {a : Result (ℕ × Cursor) Refusa
 -- the enum that is declared
 module _ (s : List ℕ) (at : ℕ) {a : Result (Tag × Cursor) Refusal} (e : a ≡ answer (read_tag s at)) where
   pub enum_none : (r : Option ℕ) {f : Refusal} → a ≡ Err f → EnumOf s at r
-  enum_none r q = record { of = λ t n g. let v = ty_at s at t n g in let u = v.tagged in let w = tag_out _ e q in no (cc) }
+  enum_none r q = record { of = λ t n g. let v = ty_at s at t n g in let u = v.tagged in let w = out _ e q in no (cc) }
 
   module _ {t : Tag} {c : Cursor} (q : a ≡ Ok (t, c)) where
     pub enum_not : t.case < 2 → EnumOf s at None
     unfolding enum_name name_found
-    enum_not k = record { of = λ x n g. go (by_tag (ty_at s at x n g) (tag_was _ e q)) k }
+    enum_not k = record { of = λ x n g. go (by_tag (ty_at s at x n g) (got _ e q)) k }
       where
         go : {m : ℕ} {x : Ty} {n : ℕ} → TyAt s c.at m x n → m < 2 → none ≡ enum_name x
         go bool_ty i = refl
@@ -136,7 +134,7 @@ module _ (s : List ℕ) (at : ℕ) {a : Result (Tag × Cursor) Refusal} (e : a �
 
     pub enum_is : (t.case ≡ 0 → ⊥) → (t.case ≡ 1 → ⊥) → EnumOf s at (Some c.at)
     unfolding enum_name name_found
-    enum_is k l = record { of = λ x n g. go (by_tag (ty_at s at x n g) (tag_was _ e q)) k l }
+    enum_is k l = record { of = λ x n g. go (by_tag (ty_at s at x n g) (got _ e q)) k l }
       where
         go : {m : ℕ} {x : Ty} {n : ℕ} → TyAt s c.at m x n → (m ≡ 0 → ⊥) → (m ≡ 1 → ⊥) → some (text_at s c.at) ≡ enum_name x
         go bool_ty i j = absurd (i refl)
@@ -198,11 +196,11 @@ bool_on_lem b (decl.enum n) = refl
 -- the pattern of a field
 module _ (s : List ℕ) (at ty : ℕ) {a : Result (Tag × Cursor) Refusal} (e : a ≡ answer (read_tag s at)) where
   pub accepts_none : (r : Fit) {f : Refusal} → a ≡ Err f → Accepts s at ty r
-  accepts_none r q = record { of = λ x n t m g h. let v = pattern_expr_at s at x n g in let u = v.tagged in let w = tag_out _ e q in no (cc) }
+  accepts_none r q = record { of = λ x n t m g h. let v = pattern_expr_at s at x n g in let u = v.tagged in let w = out _ e q in no (cc) }
 
   module _ {t : Tag} {c : Cursor} (q : a ≡ Ok (t, c)) where
     by_case : {r : Fit} → ((x : PatternExpr) (n : ℕ) → PatternExprAt s c.at t.case x n → (y : Ty) (m : ℕ) → read_ty s ty ≡ ok y m → unfit_of s r ≡ pattern_expr_compatible x y) → Accepts s at ty r
-    by_case h = record { of = λ x n y m g i. h x n (by_tag (pattern_expr_at s at x n g) (tag_was _ e q)) y m i }
+    by_case h = record { of = λ x n y m g i. h x n (by_tag (pattern_expr_at s at x n g) (got _ e q)) y m i }
 
     pub accepts_wildcard : t.case ≡ 0 → Accepts s at ty (Ok tt)
     unfolding unfit_of pattern_expr_compatible

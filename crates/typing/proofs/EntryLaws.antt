@@ -29,11 +29,9 @@ use Rattle.typing.specs.Outputs.{fields_of}
 use Rattle.typing.specs.Table.{place_after, after_item, after_tag, Past}
 use Rattle.typing.specs.Entries.{opened, Entered, case_is, case_at, given_fields, FieldsAt}
 use Rattle.typing.specs.declared.entries.Entries.{Entries}
-use Rattle.typing.proofs.TableLaws.{tag_was, tag_out, tag_to}
+use Rattle.typing.proofs.TableLaws.{tag_to}
 use Rattle.typing.proofs.EnvLaws.{entry, after_is}
-use Rattle.std.specs.Prelude.{Result}
-use Rattle.std.specs.Prelude.{Ok}
-use Rattle.std.specs.Prelude.{Err}
+use Rattle.std.specs.Prelude.{Result, Ok, Err}
 use Rattle.reading.specs.declared.fault.Refusal.{Refusal}
 
 module _ (s : List ℕ) (at : ℕ) {a : Result (ℕ × Cursor) Refusal} (e : a ≡ answer (read_count max_list s at)) where
@@ -129,11 +127,11 @@ module _ {A : Type 0} {B : Type 0} {F : Reader A} {f : List A → B} {s : List �
 module _ (s : List ℕ) (at k : ℕ) {a : Result (Tag × Cursor) Refusal} (e : a ≡ answer (read_tag s at)) where
   pub case_was : {t : Tag} {c : Cursor} → a ≡ Ok (t, c) → eqb t.case k ≡ case_at s at k
   unfolding case_is
-  case_was q = rw (tag_was _ e q)
+  case_was q = rw (got _ e q)
 
   pub case_none : {f : Refusal} → a ≡ Err f → false ≡ case_at s at k
   unfolding case_is
-  case_none q = rw (tag_out _ e q)
+  case_none q = rw (out _ e q)
 
 -- a variant has fields where its case is 1
 abbrev pub has_fields : PatternVariant → Bool

@@ -1,5 +1,5 @@
 -- What each step of the search for a guard's equalities gives, for whatever reads there.
-use Rattle.std.specs.Prelude.{Option as Maybe, Some, None}
+use Rattle.std.specs.Prelude.{Option as Maybe, Some, None, Result, Ok, Err}
 use Prim.Native.Nat.{ℕ, zero, suc, ◌-◌}
 use mathlib.Core.Path.{◌≡◌, refl, sym, ap, ◌∙◌}
 use mathlib.Core.Bool.{Bool, true, false}
@@ -36,13 +36,9 @@ use Rattle.typing.specs.declared.equality.Conjunct.{Conjunct}
 use Rattle.typing.specs.declared.equality.Conjunct.TheVariants.{And, One}
 use Rattle.typing.specs.declared.side.Side.{Side}
 use Rattle.typing.specs.declared.side.Side.TheVariants as side
-use Rattle.typing.proofs.TableLaws.{tag_was, tag_out}
 use Rattle.typing.proofs.EnvLaws.{entry}
 use Rattle.typing.proofs.ClashLaws.{called_append, equalities_append}
 -- an expression that reads has a level, and a case
-use Rattle.std.specs.Prelude.{Result}
-use Rattle.std.specs.Prelude.{Ok}
-use Rattle.std.specs.Prelude.{Err}
 use Rattle.reading.specs.declared.fault.Refusal.{Refusal}
 
 pub deep_enough : (d : ℕ) (s : List ℕ) (at : ℕ) (x : Expr) (n : ℕ) → read_expr d s at ≡ ok x n → d ≡ 0 → ⊥
@@ -58,12 +54,12 @@ stands d s at x n g =
 
 module _ (d : ℕ) (s : List ℕ) (at : ℕ) {a : Result (Tag × Cursor) Refusal} (e : a ≡ answer (read_tag s at)) (x : Expr) (n : ℕ) (g : read_expr d s at ≡ ok x n) where
   pub case_fields : {t : Tag} {c : Cursor} → a ≡ Ok (t, c) → ExprAt (d - 1) s c.at t.case x n
-  case_fields q = by_tag (stands d s at x n g) (tag_was _ e q)
+  case_fields q = by_tag (stands d s at x n g) (got _ e q)
 
   pub no_case : {A : Type 0} {f : Refusal} → a ≡ Err f → A
   no_case q =
       let u = (stands d s at x n g).tagged in
-      let w = tag_out _ e q in
+      let w = out _ e q in
       no (cc)
 
 -- a literal

@@ -1,5 +1,5 @@
 -- A search for the first entry of a name: what is left of the list decides.
-use Rattle.std.specs.Prelude.{Option as Maybe, Some, None}
+use Rattle.std.specs.Prelude.{Option as Maybe, Some, None, Result, Ok, Err}
 use Prim.Native.Nat.{ℕ, ◌+◌, ◌-◌, ◌%◌, ◌<◌, ◌≤◌}
 use mathlib.Core.Path.{◌≡◌, refl, sym, ap, subst, ◌∙◌}
 use mathlib.Core.Bool.{Bool, true, false}
@@ -9,6 +9,7 @@ use native.Mathlib.Omega.{arith}
 use lib.ListN.{length, get_or}
 use mir.Syntax.{w8}
 use mir.Val.{Fits}
+use Rattle.reading.proofs.Answers.{got, out}
 use Rattle.reading.specs.Read.{Reader, ok, pick}
 use Rattle.reading.specs.Limits.{max_list}
 use Rattle.reading.specs.Item.{read_count, read_tag}
@@ -36,14 +37,10 @@ use Rattle.typing.specs.Entries.{opened}
 use Rattle.typing.specs.declared.entries.Entries.{Entries}
 use Rattle.typing.proofs.NameLaws.{eq_name_eq}
 use Rattle.typing.proofs.ShortLaws.{ended_after}
-use Rattle.typing.proofs.TableLaws.{tag_was, tag_out}
 use Rattle.typing.proofs.EnvLaws.{after_is}
 use Rattle.typing.proofs.EntryLaws.{entered, Scanning, scan_done, scan_turn, scan_next}
 use Rattle.typing.proofs.PartLaws.{past_at, enum_text, enum_ends}
 -- what was found, from what the code learnt of it
-use Rattle.std.specs.Prelude.{Result}
-use Rattle.std.specs.Prelude.{Ok}
-use Rattle.std.specs.Prelude.{Err}
 use Rattle.reading.specs.declared.fault.Refusal.{Refusal}
 
 module _ {A : Type 0} {F : Reader A} {s : List ℕ} where
@@ -133,7 +130,7 @@ module _ (s : List ℕ) (at : ℕ) (w : Name) (b : get_or s at 0 ≡ 130) (z : g
   unfolding tag_head pick
   unit_tag =
       let q : tag_head (get_or s at 0) (get_or s (at + 1) 0) ≡ true = rw (b, z) in
-      tag_was _ (tag_short s at q (omega arith) refl) refl
+      got _ (tag_short s at q (omega arith) refl) refl
 
   pub unit_other : ((i : ℕ) → Fits w8 (get_or s i 0)) → (f : Maybe ℕ) → Differs s (at + 2) w f → OtherVariant s at w f
   unfolding Differs OtherVariant place_after
@@ -152,13 +149,13 @@ module _ (s : List ℕ) (at : ℕ) (w : Name) {a : Result (Tag × Cursor) Refusa
   unfolding NextVariant
   next_none q = λ x n r.
       let v = (constructor_variant_at s at x n r).tagged in
-      let u = tag_out _ h q in
+      let u = out _ h q in
       no (cc)
 
   module _ {t : Tag} {c : Cursor} (q : a ≡ Ok (t, c)) {text : Name} {b : Bool} (i : text ≡ text_at s c.at) (f : b ≡ eq_name text w) where
     next_called : (x : ConstructorVariant) (n : ℕ) → read_constructor_variant s at ≡ ok x n → eq_name (declared_name x) w ≡ b
     unfolding place_after
-    next_called x n r = sym (f ∙ ap (λ (y : Name). eq_name y w) (i ∙ ap (text_at s) (sym (ap place_after (tag_was _ h q))) ∙ variant_text s at x n r))
+    next_called x n r = sym (f ∙ ap (λ (y : Name). eq_name y w) (i ∙ ap (text_at s) (sym (ap place_after (got _ h q))) ∙ variant_text s at x n r))
 
     pub next_hit : b ≡ true → NextVariant s at w None
     unfolding NextVariant
@@ -166,7 +163,7 @@ module _ (s : List ℕ) (at : ℕ) (w : Name) {a : Result (Tag × Cursor) Refusa
 
     pub next_miss : {end : ℕ} → b ≡ false → PastVariant s c.at t.case end → NextVariant s at w (Some end)
     unfolding NextVariant
-    next_miss y p = record { of = λ x n r. (next_called x n r ∙ y, p.of x n (by_tag (constructor_variant_at s at x n r) (tag_was _ h q))) }
+    next_miss y p = record { of = λ x n r. (next_called x n r ∙ y, p.of x n (by_tag (constructor_variant_at s at x n r) (got _ h q))) }
 
 -- a search among variants
 module _ (s : List ℕ) (at : ℕ) (w : Name) {e : Entries} (o : e ≡ opened (read_count max_list s at)) (left k : ℕ) (z : 0 < left) (g : Seeking read_constructor_variant declared_name s w e.many e.first left k) where

@@ -1,5 +1,5 @@
 -- What each step of the judging of a guard gives, for whatever reads there.
-use Rattle.std.specs.Prelude.{Option, Some, None, Ok, Err}
+use Rattle.std.specs.Prelude.{Option, Some, None, Ok, Err, Result}
 use Prim.Native.Nat.{ℕ, ◌-◌, ◌<◌}
 use mathlib.Core.Path.{◌≡◌, refl, sym, ap, ◌∙◌}
 use mathlib.Core.Bool.{Bool, true, false}
@@ -37,7 +37,6 @@ use Rattle.typing.proofs.TableLaws.{first_none}
 use Rattle.typing.proofs.ClashLaws.{clash_append, clashes_are}
 use Rattle.typing.proofs.EqualityLaws.{deep_enough, stands, was_and, was_one}
 -- the literal false: 20 in a head of major type 7
-use Rattle.std.specs.Prelude.{Result}
 use Rattle.reading.specs.declared.fault.Refusal.{Refusal}
 
 bool_head : (s : List ℕ) (at : ℕ) → Gives (λ b n. (v : ℕ) × (read_kind 7 s at ≡ ok v n) × (eqb v 20 ≡ is_literal_false (expr.bool b))) (read_bool s at)

@@ -1,5 +1,5 @@
 -- What each step of the judging of a formula gives, for whatever reads there.
-use Rattle.std.specs.Prelude.{Ok, Err}
+use Rattle.std.specs.Prelude.{Ok, Err, Result}
 use Prim.Native.Nat.{ℕ, suc, ◌-◌, ◌<◌, ◌≤◌}
 use mathlib.Core.Path.{◌≡◌, refl, sym, ap, ◌∙◌}
 use mathlib.Core.Bool.{Bool, true, false}
@@ -42,14 +42,12 @@ use Rattle.typing.specs.declared.ty.Ty.{Ty}
 use Rattle.typing.specs.declared.cause.Cause.{Cause}
 use Rattle.typing.specs.declared.cause.Cause.TheVariants.{BindingInFormula, MustBeBool}
 use Rattle.typing.specs.declared.cause.What.TheVariants as what
-use Rattle.typing.proofs.TableLaws.{tag_out}
 use Rattle.typing.proofs.EnvLaws.{after_is}
 use Rattle.typing.proofs.EntryLaws.{Scanning, scan_done, scan_turn, scan_next}
 use Rattle.typing.proofs.PartLaws.{option_null, option_there, name_stands, pattern_variant}
 use Rattle.typing.proofs.TypeLaws.{is_typed, is_failed}
 use Rattle.typing.proofs.ShapeLaws.{Shape, input, output, expression, one, always, sometime, two, shape, formula_fields}
 -- a field of a pattern
-use Rattle.std.specs.Prelude.{Result}
 use Rattle.reading.specs.declared.fault.Refusal.{Refusal}
 
 module _ (s : List ℕ) (at : ℕ) {k : ℕ} {b : Bool} (h : k ≡ after_head s at) (e : b ≡ eqb (get_or s k 0) 246) where
@@ -164,7 +162,7 @@ module _ (env : Env) (d : ℕ) (s : List ℕ) (at : ℕ) (r : Fit) where
         let k : d ≡ suc (d - 1) = omega arith in
         let v = formula_at (d - 1) s at x n (ap (λ (i : ℕ). read_formula i s at) (sym k) ∙ g) in
         let u = v.tagged in
-        let w = tag_out _ e q in
+        let w = out _ e q in
         no (cc);
   }
 

@@ -1,5 +1,5 @@
 -- What each step of a path's meaning gives, over whatever the code is given.
-use Rattle.std.specs.Prelude.{Option as Maybe, Some, None, Ok, Err}
+use Rattle.std.specs.Prelude.{Option as Maybe, Some, None, Ok, Err, Result}
 use Prim.Native.Nat.{ℕ, ◌+◌, ◌<◌, ◌≤◌}
 use mathlib.Core.Path.{◌≡◌, refl, sym, ap, subst, ◌∙◌}
 use mathlib.Core.Bool.{Bool, true, false}
@@ -41,7 +41,6 @@ use Rattle.typing.specs.declared.cause.Cause.TheVariants.{UnknownIdentifier, Unk
 use Rattle.typing.proofs.ShortLaws.{head_one}
 use Rattle.typing.proofs.EnvLaws.{after_is}
 -- what a search found
-use Rattle.std.specs.Prelude.{Result}
 use Rattle.reading.specs.declared.fault.Refusal.{Refusal}
 
 pub found_at : (o : Option ℕ) {f : Maybe ℕ} {at : ℕ} → f ≡ found o → f ≡ Some at → o ≡ some at

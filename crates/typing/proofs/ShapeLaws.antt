@@ -27,11 +27,8 @@ use Rattle.typing.specs.Table.{place_after, Past}
 use Rattle.typing.specs.Shape.{kind_of, Bounds, BoundsAlways, BoundsSometime, BoundsTwo}
 use Rattle.typing.specs.declared.formula.Kind.{Kind}
 use Rattle.typing.specs.declared.formula.Kind.TheVariants.{Input, Output, Expression, One, Always, Sometime, Two, Unknown}
-use Rattle.typing.proofs.TableLaws.{tag_was, tag_out}
 -- a formula ends where the item does
-use Rattle.std.specs.Prelude.{Result}
-use Rattle.std.specs.Prelude.{Ok}
-use Rattle.std.specs.Prelude.{Err}
+use Rattle.std.specs.Prelude.{Result, Ok, Err}
 use Rattle.reading.specs.declared.fault.Refusal.{Refusal}
 
 pub formula_ends : (d : ℕ) (s : List ℕ) (at : ℕ) {r : ℕ} → Past s at r → Ends (read_formula d s at) r
@@ -95,7 +92,7 @@ module _ (d : ℕ) (s : List ℕ) (m : ℕ) where
 pub formula_fields : (d : ℕ) (s : List ℕ) (at : ℕ) {a : Result (Tag × Cursor) Refusal} {t : Tag} {c : Cursor} {q : Kind} (q' : Kind) → (d ≡ 0 → ⊥) → a ≡ answer (read_tag s at) → a ≡ Ok (t, c) → q ≡ kind_of t.case → q ≡ q' → (f : Formula) (n : ℕ) → read_formula d s at ≡ ok f n → Fields (d - 1) s c.at q' (shape f) n
 formula_fields d s at {t = t} {c = c} q' z e w u v f n g =
     let k : d ≡ suc (d - 1) = omega arith in
-    subst (λ (x : Kind). Fields (d - 1) s c.at x (shape f) n) (sym u ∙ v) (fields_of_lem (d - 1) s c.at (by_tag (formula_at (d - 1) s at f n (ap (λ (i : ℕ). read_formula i s at) (sym k) ∙ g)) (tag_was _ e w)))
+    subst (λ (x : Kind). Fields (d - 1) s c.at x (shape f) n) (sym u ∙ v) (fields_of_lem (d - 1) s c.at (by_tag (formula_at (d - 1) s at f n (ap (λ (i : ℕ). read_formula i s at) (sym k) ∙ g)) (got _ e w)))
 
 -- the bounds of each shape
 abbrev bound_shape : Shape → Bool
@@ -134,7 +131,7 @@ module _ (d : ℕ) (s : List ℕ) (at : ℕ) (r : Bool) where
         let k : d ≡ suc (d - 1) = omega arith in
         let v = formula_at (d - 1) s at x n (ap (λ (i : ℕ). read_formula i s at) (sym k) ∙ g) in
         let u = v.tagged in
-        let w = tag_out _ e q in
+        let w = out _ e q in
         no (cc);
   }
 

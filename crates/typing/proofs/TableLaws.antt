@@ -1,5 +1,5 @@
 -- What the code's scans of tables and lists mean, over whatever they are given.
-use Rattle.std.specs.Prelude.{Option as Maybe, Some, None}
+use Rattle.std.specs.Prelude.{Option as Maybe, Some, None, Result, Ok, Err}
 use Prim.Native.Nat.{ℕ, zero, suc, ◌+◌, ◌-◌, ◌*◌, ◌<◌, ◌≤◌}
 use mathlib.Core.Path.{◌≡◌, refl, sym, ap, ◌∙◌}
 use mathlib.Core.Bool.{Bool, true, false}
@@ -32,25 +32,16 @@ use Rattle.typing.specs.declared.ty.Ty.{Ty}
 use Rattle.typing.specs.declared.ty.Ty.TheVariants as ty
 use Rattle.typing.proofs.ShortLaws.{ended_after}
 -- what was read, from what the code learnt of its answer
-use Rattle.std.specs.Prelude.{Result}
-use Rattle.std.specs.Prelude.{Ok}
-use Rattle.std.specs.Prelude.{Err}
 use Rattle.reading.specs.declared.fault.Refusal.{Refusal}
-
-pub tag_was : (m : Read Tag) {r : Result (Tag × Cursor) Refusal} {t : Tag} {c : Cursor} → r ≡ answer m → r ≡ Ok (t, c) → m ≡ ok t c.at
-tag_was m e q = got m e q
-
-pub tag_out : (m : Read Tag) {r : Result (Tag × Cursor) Refusal} {f : Refusal} → r ≡ answer m → r ≡ Err f → m ≡ refused f.fault f.place
-tag_out m e q = out m e q
 
 -- the place after a data enum's head, and after an item
 pub tag_to : (m : Read Tag) {r : Result (Tag × Cursor) Refusal} {t : Tag} {c : Cursor} → r ≡ answer m → r ≡ Ok (t, c) → c.at ≡ place_after m
 unfolding place_after
-tag_to m e q = rw (tag_was m e q)
+tag_to m e q = rw (got m e q)
 
 pub tag_away : (m : Read Tag) {r : Result (Tag × Cursor) Refusal} {f : Refusal} → r ≡ answer m → r ≡ Err f → f.place ≡ place_after m
 unfolding place_after
-tag_away m e q = rw (tag_out m e q)
+tag_away m e q = rw (out m e q)
 
 pub after_to : (m : Read (Unit {0})) {r : Result Cursor Refusal} {c : Cursor} → r ≡ stands m → r ≡ Ok c → c.at ≡ place_after m
 unfolding stands place_after
@@ -182,23 +173,23 @@ module _ (s : List ℕ) (at : ℕ) where
   module _ {a : Result (Tag × Cursor) Refusal} (e : a ≡ answer (read_tag s at)) where
     pub type_none : {f : Refusal} → a ≡ Err f → ty_of s ty.Bool ≡ expr_type_at s at
     unfolding ty_of expr_type_at case_type
-    type_none q = rw (tag_out _ e q)
+    type_none q = rw (out _ e q)
 
     module _ {t : Tag} {c : Cursor} (q : a ≡ Ok (t, c)) where
       pub case_width : t.case ≡ 1 → width_type (read_number max_u32 s c.at) ≡ expr_type_at s at
       unfolding expr_type_at case_type pick
-      case_width k = rw (tag_was _ e q, k)
+      case_width k = rw (got _ e q, k)
 
       pub type_width : (r : Ty) → t.case ≡ 1 → ty_of s r ≡ width_type (read_number max_u32 s c.at) → ty_of s r ≡ expr_type_at s at
       type_width r k g = g ∙ case_width k
 
       pub type_enum : t.case ≡ 2 → ty_of s (ty.Enum c.at) ≡ expr_type_at s at
       unfolding ty_of expr_type_at case_type pick
-      type_enum k = rw (tag_was _ e q, k)
+      type_enum k = rw (got _ e q, k)
 
       pub type_beyond : (t.case ≡ 1 → ⊥) → (t.case ≡ 2 → ⊥) → ty_of s ty.Bool ≡ expr_type_at s at
       unfolding ty_of expr_type_at case_type pick
-      type_beyond h k = rw (tag_was _ e q, ne_eqb t.case 1 h, ne_eqb t.case 2 k)
+      type_beyond h k = rw (got _ e q, ne_eqb t.case 1 h, ne_eqb t.case 2 k)
 
 pub pairs_length : (c : ℕ) (s : List ℕ) (k : ℕ) → length (pairs_from c s k) ≡ 2 * c
 unfolding pairs_from

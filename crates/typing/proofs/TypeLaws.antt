@@ -1,5 +1,5 @@
 -- What each step of an expression's typing gives, for whatever reads there.
-use Rattle.std.specs.Prelude.{Ok, Err}
+use Rattle.std.specs.Prelude.{Ok, Err, Result}
 use Prim.Native.Nat.{ℕ, suc, ◌-◌}
 use mathlib.Core.Path.{◌≡◌, refl, sym, ap, subst, ◌∙◌}
 use mathlib.Core.Bool.{Bool, true}
@@ -33,11 +33,9 @@ use Rattle.typing.specs.declared.ty.Ty.{Ty}
 use Rattle.typing.specs.declared.ty.Ty.TheVariants as ty
 use Rattle.typing.specs.declared.cause.Cause.{Cause}
 use Rattle.typing.proofs.RuleLaws.{not_bool}
-use Rattle.typing.proofs.TableLaws.{tag_was, tag_out}
 use Rattle.typing.proofs.EnvLaws.{after_is}
 use Rattle.typing.proofs.Depends.{type_agree}
 -- an expression ends where the item does
-use Rattle.std.specs.Prelude.{Result}
 use Rattle.reading.specs.declared.fault.Refusal.{Refusal}
 
 pub expr_ends : (d : ℕ) (s : List ℕ) (at : ℕ) {r : ℕ} → Past s at r → Ends (read_expr d s at) r
@@ -69,7 +67,7 @@ module _ (d : ℕ) (s : List ℕ) (at : ℕ) {a : Result (Tag × Cursor) Refusal
   pub fields_are : (d ≡ 0 → ⊥) → {t : Tag} {c : Cursor} → a ≡ Ok (t, c) → (x : Expr) (n : ℕ) → read_expr d s at ≡ ok x n → ExprAt (d - 1) s c.at t.case x n
   fields_are z q x n g =
       let k : d ≡ suc (d - 1) = omega arith in
-      by_tag (expr_at (d - 1) s at x n (ap (λ (i : ℕ). read_expr i s at) (sym k) ∙ g)) (tag_was _ e q)
+      by_tag (expr_at (d - 1) s at x n (ap (λ (i : ℕ). read_expr i s at) (sym k) ∙ g)) (got _ e q)
 
 -- no expression stands there
 module _ (env : Env) (d : ℕ) (s : List ℕ) (at : ℕ) (r : Typed) where
@@ -83,7 +81,7 @@ module _ (env : Env) (d : ℕ) (s : List ℕ) (at : ℕ) (r : Typed) where
         let k : d ≡ suc (d - 1) = omega arith in
         let v = expr_at (d - 1) s at x n (ap (λ (i : ℕ). read_expr i s at) (sym k) ∙ g) in
         let u = v.tagged in
-        let w = tag_out _ e q in
+        let w = out _ e q in
         no (cc);
   }
 
