@@ -3,23 +3,19 @@ use Prim.Native.Nat.{ℕ, suc, ◌+◌, ◌*◌, ◌<◌, ◌≤◌}
 use mathlib.Core.Path.{◌≡◌, refl, sym, ap, ap₂, ◌∙◌}
 use mathlib.Core.Logic.{◌≢◌}
 use mathlib.Core.List.{List, [], ◌∷◌}
-use mathlib.Core.Bool.{Bool, true, false, not, cond, ◌&&◌}
+use mathlib.Core.Bool.{Bool, true, false, not, cond, ◌&&◌, ◌||◌}
 use mathlib.Core.Option.{Option, none, some}
 use native.Mathlib.Omega.{arith}
 use native.Mathlib.Numerals.{add-one}
 use native.Mathlib.Decide.{ℕ_discrete}
-use lib.Dec.{eqb}
+use lib.Dec.{eqb, ltb}
 use lib.ListN.{length, drop, get_or, get_elem?, set, length-set, drop_of_length-le}
-use lib.Seq.{get_or-set_same, get_or-set_other}
-use borrow.Author.Tests.{eq-eqb, ne_eqb}
-use Rattle.std.proofs.lemmas.Cmp.{same_from_slice_cmp_tested}
-use Rattle.std.proofs.lemmas.Bool.Decides.{nat_tests}
-use Rattle.std.specs.Cmp.Lexicographic.{slice_partial_cmp}
-use Rattle.std.specs.Ordering.{nat_cmp, is_lt, is_some_and}
-use Rattle.std.specs.Prelude as std
+use lib.Seq.{drop-cons, get_or-set_same, get_or-set_other}
+use borrow.Author.Tests.{eq-eqb, ne_eqb, le-ltb, ltb-true, ltb-false}
 use Rattle.reading.specs.Text.{Name}
 use Rattle.reading.specs.Skip.{text_at}
 use Rattle.reading.specs.Transition.{Transition}
+use Rattle.reading.proofs.Rules.{by}
 use Rattle.typing.specs.Names.{eq_name}
 use Rattle.findings.specs.Order.{earlier, least, without}
 use Rattle.findings.specs.Scene.{field, Rows}
@@ -28,10 +24,37 @@ use Rattle.findings.specs.StateSteps.{undone, next_name, state_in, Better, NextS
 use Rattle.findings.proofs.PlaceLaws.{entry_at, entry_below, entry_past, drop_entry}
 use Rattle.findings.proofs.PairTests.{state_text, states_bytes, states_differ}
 
--- the order of slices is this one
-pub earlier_less : (a b : Name) (r : Bool) → r ≡ is_some_and is_lt (slice_partial_cmp (λ x y. std.Some (nat_cmp x y)) a b) → r ≡ earlier a b
-unfolding earlier
-earlier_less = same_from_slice_cmp_tested nat_cmp is_lt earlier refl (λ _ _. refl) (λ _ _. refl) (λ x y xs ys o h. grind (arith, nat_tests))
+-- two names from place i on
+or_false_lem : (a : Bool) → a ≡ (a || false)
+or_false_lem true = refl
+or_false_lem false = refl
+
+module _ (a b : Name) (i : ℕ) (r : earlier (drop i a) (drop i b) ≡ earlier a b) where
+  here : i < length a → i < length b → earlier (drop i a) (drop i b) ≡ (ltb (get_or a i 0) (get_or b i 0) || eqb (get_or a i 0) (get_or b i 0) && earlier (drop (i + 1) a) (drop (i + 1) b))
+  unfolding earlier
+  here h k = rw (drop-cons a i 0 h, drop-cons b i 0 k, add-one)
+
+  pub earlier_short : i < length a → length b ≤ i → false ≡ earlier a b
+  unfolding earlier
+  earlier_short h k = rw (drop-cons a i 0 h, drop_of_length-le b k) at r
+
+  pub earlier_differ : i < length a → i < length b → (get_or a i 0 ≡ get_or b i 0 → ⊥) → ltb (get_or a i 0) (get_or b i 0) ≡ earlier a b
+  earlier_differ h k d = or_false_lem (ltb (get_or a i 0) (get_or b i 0)) ∙ sym (rw (ne_eqb (get_or a i 0) (get_or b i 0) d) at (here h k)) ∙ r
+
+  pub earlier_more : i < length a → i < length b → get_or a i 0 ≡ get_or b i 0 → earlier (drop (i + 1) a) (drop (i + 1) b) ≡ earlier a b
+  earlier_more h k e =
+      let l : get_or b i 0 ≤ get_or a i 0 = omega arith in
+      sym (rw (le-ltb (get_or a i 0) (get_or b i 0) l, eq-eqb (get_or a i 0) (get_or b i 0) e) at (here h k)) ∙ r
+
+  pub earlier_done : length a ≤ i → ltb i (length b) ≡ earlier a b
+  unfolding earlier
+  earlier_done h = end ∙ ap (λ (x : Name). earlier x (drop i b)) (sym (drop_of_length-le a h)) ∙ r
+    where
+      end : ltb i (length b) ≡ earlier [] (drop i b)
+      end =
+          by (ltb i (length b))
+          (λ e. let l = ltb-true i (length b) e in rw (e, drop-cons b i 0 l))
+          (λ e. let l = ltb-false i (length b) e in rw (e, drop_of_length-le b l))
 
 pub states_earlier : (s : List ℕ) (a b c d : ℕ) (x y : Name) {r : Bool} → r ≡ earlier x y → x ≡ text_at s a → y ≡ text_at s b → a ≡ c → b ≡ d → r ≡ earlier (text_at s c) (text_at s d)
 states_earlier s a b c d x y e p q u v = rw (p, q, u, v) at e

@@ -226,7 +226,7 @@ module _ (s : List ℕ) {f : Option ℕ} (w : Name) where
       go q variants_none = refl
 
   module _ {at : ℕ} {v : Option ℕ} (q : f ≡ Some at) (h : FirstVariant s at w v) where
-    variant_found_lem : {k : ℕ} → v ≡ Some k → HasVariant s f w true
+    pub variant_found_lem : {k : ℕ} → v ≡ Some k → HasVariant s f w true
     variant_found_lem z = record {
       of = λ vs g.
           let x = at_of s q g in
@@ -234,7 +234,7 @@ module _ (s : List ℕ) {f : Option ℕ} (w : Name) where
           sym (ap (member w) x.1 ∙ called_some w x.0 y.0 y.3);
     }
 
-    variant_missing : v ≡ None → HasVariant s f w false
+    pub variant_missing : v ≡ None → HasVariant s f w false
     variant_missing z = record {
       of = λ vs g.
           let x = at_of s q g in

@@ -9,11 +9,19 @@ use crate::pairs::same_fields;
 use crate::rows::field;
 use reading::text_at;
 
-// Whether a name comes before another, byte by byte.
+// Whether a name comes before another, byte by byte. The library's order of slices takes nearly twice the instructions a byte.
 fn earlier<'a>(a: &'a [u8], b: &'a [u8]) -> bool
     ensures { result ≡ earlier a.now b.now }
 {
-    a < b
+    for i in 0..a.len() {
+        if b.len() <= i {
+            return false;
+        }
+        if a[i] != b[i] {
+            return a[i] < b[i];
+        }
+    }
+    a.len() < b.len()
 }
 
 // Whether the state of transition i comes before that of transition b.

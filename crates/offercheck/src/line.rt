@@ -1,5 +1,5 @@
 // The lines of findings, by their words.
-ghost use Rattle.std.specs.Prelude.{◌≡◌, ◌<◌, ◌≤◌, length};
+ghost use Rattle.std.specs.Prelude.{◌≡◌, ◌<◌, ◌≤◌, ◌+◌, ◌*◌, length, get_or};
 ghost use Rattle.reading.specs.Limits.{max_list};
 ghost use Rattle.text.specs.Near.{Kept};
 ghost use Rattle.text.specs.Bound.{BoundTo};
@@ -29,8 +29,10 @@ pub(crate) struct Listing<'a> {
 
 impl Listing<'_> {
     // A word of finding number i; 0 past the end.
+    #[tactic(auto, using(typing::proofs::RollLaws::past_end))]
     fn word(self, i: usize, k: usize) -> u32
         requires { (i ≤ 0xffff) × (k < 5) }
+        ensures { result ≡ get_or self.entry.words.now (5 * i + k) 0 }
     {
         self.words.get(5 * i + k).copied().unwrap_or(0)
     }

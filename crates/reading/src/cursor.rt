@@ -49,7 +49,11 @@ fn eight(doc: &[u8], at: usize) -> u64
     four(doc, at) * 4294967296 + four(doc, at + 4)
 }
 
+// What reads a head stands in its callers, down from here: as the answer of a call a head would go through memory with the fill behind its major
+// type, which takes longer than all else that a head of several bytes costs.
+
 // A head whose argument was read: refused where a shorter head would do.
+#[inline(always)]
 fn settle(major: u8, argument: u64, least: u64, at: usize, next: usize) -> Answer<Head>
     ensures { result ≡ answer (settled major argument least at next) }
 {
@@ -61,6 +65,7 @@ fn settle(major: u8, argument: u64, least: u64, at: usize, next: usize) -> Answe
 }
 
 // Major type 7: false, true and null.
+#[inline(always)]
 fn simple_head(info: u8, at: usize) -> Answer<Head>
     requires { at + 1 < 18446744073709551616 }
     ensures { result ≡ answer (simple info at) }
@@ -78,6 +83,7 @@ fn simple_head(info: u8, at: usize) -> Answer<Head>
 }
 
 // A head whose argument stands in the bytes after it; each width has its word in `specs/Head.antt`.
+#[inline(always)]
 fn wide_head(doc: &[u8], at: usize, major: u8, info: u8) -> Answer<Head>
     requires { at < length doc.now }
     ensures { result ≡ answer (wide_head major info doc.now at) }
@@ -112,6 +118,7 @@ fn wide_head(doc: &[u8], at: usize, major: u8, info: u8) -> Answer<Head>
 }
 
 // What the first byte decides, taken apart into major type and additional information.
+#[inline(always)]
 fn head_with(doc: &[u8], at: usize, major: u8, info: u8) -> Answer<Head>
     requires { at < length doc.now }
     ensures { result ≡ answer (head_with major info doc.now at) }
@@ -135,6 +142,7 @@ fn head_with(doc: &[u8], at: usize, major: u8, info: u8) -> Answer<Head>
 }
 
 // The head at any place, past the end too.
+#[inline(always)]
 pub(crate) fn head_at(doc: &[u8], at: usize) -> Answer<Head>
     ensures { result ≡ answer (read_head doc.now at) }
 {
@@ -147,6 +155,7 @@ pub(crate) fn head_at(doc: &[u8], at: usize) -> Answer<Head>
 
 impl Cursor {
     // The head at the cursor.
+    #[inline(always)]
     pub fn head(self, doc: &[u8]) -> Answer<Head>
         ensures { result ≡ answer (read_head doc.now self.at) }
     {

@@ -25,7 +25,7 @@ impl Item for EnumDecl {
     {
         c.fields(doc, EnumDecl::FIELDS)?
             .past::<Name>(doc)?
-            .list::<Name>(doc, limits::LIST)
+            .list_here::<Name>(doc, limits::LIST)
     }
 }
 

@@ -107,6 +107,14 @@ impl Cursor {
     pub(crate) fn list<I: Item>(self, doc: &[u8], limit: u64) -> Result<Cursor, Refusal>
         ensures { result ≡ list_ends limit I.ends doc.now self.at }
     {
+        self.list_here::<I>(doc, limit)
+    }
+
+    // The same in its caller, for lists that are often short.
+    #[inline(always)]
+    pub(crate) fn list_here<I: Item>(self, doc: &[u8], limit: u64) -> Result<Cursor, Refusal>
+        ensures { result ≡ list_ends limit I.ends doc.now self.at }
+    {
         let (count, mut c) = self.count(doc, limit)?;
         for _ in 0..count {
             c = I::pass(c, doc)?;

@@ -1,18 +1,19 @@
 // Replays data/findings.bin: each record has a document, and its findings or its refusal, as the original Rust gives them.
 use crate::file::{Records, next_byte, next_word, read_front};
-use crate::sheet::{Due, judge};
+use crate::sheet::{Due, Sheet, judge};
 use std::fmt;
 use std::fs::File;
 use std::io::Stdout;
 use std::ops::ControlFlow;
 
-// How many documents were accepted and refused as is due, and how many were not; and how many findings there were.
-#[derive(Clone, Copy, Default)]
+// How many documents were accepted and refused as is due, and how many were not; how many findings there were; and the words that are lent.
+#[derive(Drop)]
 pub(crate) struct Sheets {
     accepted: u64,
     findings: u64,
     refused: u64,
     wrong: u64,
+    sheet: Sheet,
 }
 
 impl fmt::Display for Sheets {
@@ -22,6 +23,7 @@ impl fmt::Display for Sheets {
             findings,
             refused,
             wrong,
+            ..
         } = *self;
         write!(
             f,
@@ -31,6 +33,16 @@ impl fmt::Display for Sheets {
 }
 
 impl Sheets {
+    pub(crate) fn new() -> Sheets {
+        Sheets {
+            accepted: 0,
+            findings: 0,
+            refused: 0,
+            wrong: 0,
+            sheet: [0; 16384],
+        }
+    }
+
     fn count_right(&mut self, due: Due) {
         if due.number != 0 {
             self.refused = self.refused.saturating_add(1);
@@ -62,7 +74,7 @@ impl Records for Sheets {
         let Some(findings) = read_front(file, &mut space, 6 * due.findings()) else {
             return self.cut_off();
         };
-        if judge(doc, findings, due) {
+        if judge(doc, &mut self.sheet, findings, due) {
             self.count_right(due);
         } else {
             let _ = println!(out; "otherwise than is due: {due}");

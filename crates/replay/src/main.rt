@@ -29,7 +29,7 @@ fn main(rt: HostRuntime) -> Result<()> {
         File::open(&rt, "findings.bin")?,
         out,
         &mut space,
-        Sheets::default(),
+        Sheets::new(),
     );
     replay(
         File::open(&rt, "messages.bin")?,

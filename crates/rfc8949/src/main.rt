@@ -55,22 +55,24 @@ fn refusal_of_all(bytes: &[u8]) -> Option<Refusal> {
     start.kind(bytes, 0).err()
 }
 
-// The line of an example: what its head is, or why it is refused.
-fn show(out: Stdout, bytes: &[u8]) -> Result<()> {
-    print!(out; "{}: ", Hex(bytes))?;
+// The line of an example: what its head is, or why it is refused. What cannot be written is left out.
+fn show(out: Stdout, bytes: &[u8]) {
+    let _ = print!(out; "{}: ", Hex(bytes));
     match reading::head_from(bytes, 0) {
-        Err(refusal) => println!(out; "{}", Refused(refusal)),
+        Err(refusal) => {
+            let _ = print!(out; "{}", Refused(refusal));
+        }
         Ok((Head { major, argument }, next)) => {
-            print!(out;
+            let _ = print!(out;
                 "major type {major}, argument {argument}, {} bytes",
                 next.at
-            )?;
+            );
             if let Some(refusal) = refusal_of_all(bytes) {
-                print!(out; "; no kind of a document: {}", Refused(refusal))?;
+                let _ = print!(out; "; no kind of a document: {}", Refused(refusal));
             }
-            println!(out)
         }
     }
+    let _ = println!(out);
 }
 
 // Reads the next example to the front of the space; none at the end of the file.
@@ -90,8 +92,7 @@ fn main(rt: HostRuntime) -> Result<()> {
         let Some(bytes) = next_example(&mut file, &mut space) else {
             break;
         };
-        // What cannot be written is left out.
-        let _ = show(rt.stdout(), bytes);
+        show(rt.stdout(), bytes);
     }
     Ok(())
 }

@@ -1,14 +1,13 @@
 -- Texts put one after another.
-use Prim.Native.Nat.{ℕ, suc, ◌+◌, ◌-◌, ◌≤◌}
+use Prim.Native.Nat.{ℕ, suc, ◌+◌, ◌-◌, ◌<◌, ◌≤◌}
 use native.Mathlib.Nat.{add-zero, add-suc, suc-add}
+use native.Mathlib.Numerals.{add-one}
 use native.Mathlib.Omega.{arith}
 use mathlib.Core.Path.{◌≡◌, refl, sym, ap, ◌∙◌}
-use mathlib.Core.List.{List, [], ◌∷◌, ◌++◌, append_assoc}
-use lib.ListN.{length, set, take, drop, length-append}
-use lib.Seq.{sets, set_out, length-sets, length-take-le, drop-drop}
-use borrow.Rule.Slice.PartMut.{put_mid}
+use mathlib.Core.List.{List, [], ◌∷◌, ◌++◌}
+use lib.ListN.{length, set, take, drop, get_or, length-append}
+use lib.Seq.{sets, set_out, take-suc, length-sets, length-take-le}
 use Rattle.std.proofs.lemmas.List.{take-append-drop}
-use Rattle.std.proofs.lemmas.List.Edits.{sets-eq}
 use Rattle.text.specs.Put.{Put}
 
 pub sets_sets : (o : List ℕ) (at : ℕ) (xs ys : List ℕ) → sets (sets o at xs) (at + length xs) ys ≡ sets o at (xs ++ ys)
@@ -29,21 +28,25 @@ pub ◌then◌ : {o o₁ o₂ xs ys : List ℕ} {at r₁ r₂ : ℕ} → Put o a
       ∙ sets_sets o at xs ys;
 }
 
+-- one byte more of a text
+pub sets_more : (o : List ℕ) (at : ℕ) (bs : List ℕ) (i : ℕ) → i < length bs
+    → set (sets o at (take i bs)) (at + i) (get_or bs i 0) ≡ sets o at (take (i + 1) bs)
+sets_more o at bs i h =
+    ap (λ (k : ℕ). set (sets o at (take i bs)) (at + k) (get_or bs i 0)) (sym (length-take-le i bs (omega arith)))
+    ∙ sets_sets o at (take i bs) (get_or bs i 0 ∷ [])
+    ∙ ap (λ (l : List ℕ). sets o at l) (sym (take-suc bs i 0 h) ∙ ap (λ (k : ℕ). take k bs) (sym (add-one i)))
+
 -- past the end nothing is put
 pub sets_out : (o bs : List ℕ) (i : ℕ) → length o ≤ i → sets o i bs ≡ o
 sets_out o [] i h = refl
 sets_out o (b ∷ bs) i h = rw (set_out o i b h) (sets_out o bs (suc i) (omega arith))
 
--- a text in the place of the part of its length; and one that reaches to the end or past it
-pub sets_whole : (o bs : List ℕ) (at k : ℕ) → k ≡ length bs → at + length bs ≤ length o → put_mid at k o bs ≡ sets o at bs
-sets_whole o bs at k e h = rw (e, drop-drop) (sym (append_assoc (take at o) bs _)) ∙ sym (sets-eq bs o at h)
-
-pub sets_part : (o bs : List ℕ) (at : ℕ) → at ≤ length o → length o ≤ at + length bs → put_mid at (length o - at) o (take (length o - at) bs) ≡ sets o at bs
+-- of a text that reaches to the end or past it, as much as there is room for
+pub sets_part : (o bs : List ℕ) (at : ℕ) → at ≤ length o → length o ≤ at + length bs → sets o at (take (length o - at) bs) ≡ sets o at bs
 sets_part o bs at l h =
     let n : length (take (length o - at) bs) ≡ length o - at = length-take-le (length o - at) bs (omega arith) in
-    let whole : put_mid at (length o - at) o (take (length o - at) bs) ≡ sets o at (take (length o - at) bs) = sets_whole o _ at _ (sym n) (omega arith) in
     let past = sets_out (sets o at (take (length o - at) bs)) (drop (length o - at) bs) (at + length (take (length o - at) bs)) (omega (arith, length-sets o at (take (length o - at) bs))) in
-    whole ∙ sym past ∙ sets_sets o at (take (length o - at) bs) (drop (length o - at) bs) ∙ ap (sets o at) (take-append-drop (length o - at) bs)
+    sym past ∙ sets_sets o at (take (length o - at) bs) (drop (length o - at) bs) ∙ ap (sets o at) (take-append-drop (length o - at) bs)
 
 -- nothing put
 pub put_none : {o bs : List ℕ} {at : ℕ} → bs ≡ [] → Put o at bs at o

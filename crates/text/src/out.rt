@@ -24,6 +24,16 @@ pub(crate) fn put_byte(out: &mut [u8], at: usize, b: u8) -> usize
     at + 1
 }
 
+// Puts part into out from at on, where it fits. A loop, since most parts are short, and the library's copy is a call out of the archive.
+fn put_whole(out: &mut [u8], at: usize, part: &[u8])
+    requires { at + length part.now ≤ length out.old }
+    ensures { out.new ≡ sets out.old at part.now }
+{
+    for i in 0..part.len() {
+        out[at + i] = part[i];
+    }
+}
+
 // Puts as much of part into out from at on as out has room for.
 fn put_some(out: &mut [u8], at: usize, part: &[u8])
     requires { length out.old ≤ at + length part.now }
@@ -31,7 +41,7 @@ fn put_some(out: &mut [u8], at: usize, part: &[u8])
 {
     if at < out.len() {
         let room = out.len() - at;
-        out[at..].copy_from_slice(&part[..room]);
+        put_whole(out, at, &part[..room]);
     }
 }
 
@@ -45,6 +55,6 @@ pub fn put_bytes(out: &mut [u8], at: usize, part: &[u8]) -> usize
         put_some(out, at, part);
         return end;
     }
-    out[at..end].copy_from_slice(part);
+    put_whole(out, at, part);
     end
 }

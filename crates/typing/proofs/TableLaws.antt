@@ -187,6 +187,10 @@ module _ (s : List ℕ) (at : ℕ) where
       unfolding ty_of expr_type_at case_type pick
       type_enum k = rw (got _ e q, k)
 
+      pub type_bool : t.case ≡ 0 → ty_of s ty.Bool ≡ expr_type_at s at
+      unfolding ty_of expr_type_at case_type pick
+      type_bool k = rw (got _ e q, k)
+
       pub type_beyond : (t.case ≡ 1 → ⊥) → (t.case ≡ 2 → ⊥) → ty_of s ty.Bool ≡ expr_type_at s at
       unfolding ty_of expr_type_at case_type pick
       type_beyond h k = rw (got _ e q, ne_eqb t.case 1 h, ne_eqb t.case 2 k)

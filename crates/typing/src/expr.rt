@@ -46,7 +46,7 @@ pub fn type_expr<'a>(
         2 => resolve_path(doc, k, after_path(doc, k), names, enums),
         3 => type_unary(doc, k, depth - 1, names, enums),
         4 => type_binary(doc, k, depth - 1, names, enums),
-        _ => Err(Cause::EmptyPath),
+        5..=u64::MAX => Err(Cause::EmptyPath),
     }
 }
 
@@ -66,7 +66,10 @@ pub(crate) fn type_unary<'a>(
     let Ok((op, operand)) = o else {
         return Err(Cause::EmptyPath);
     };
-    let (ty, next) = type_expr(doc, operand.at, depth, names, enums)?;
+    let t = type_expr(doc, operand.at, depth, names, enums);
+    let Ok((ty, next)) = t else {
+        return t;
+    };
     if op == 0 && is_bool(doc, ty) {
         return Ok((Ty::Bool, next));
     }
@@ -89,9 +92,15 @@ pub(crate) fn type_binary<'a>(
     let Ok((op, left)) = o else {
         return Err(Cause::EmptyPath);
     };
-    let (lt, right) = type_expr(doc, left.at, depth, names, enums)?;
+    let l = type_expr(doc, left.at, depth, names, enums);
+    let Ok((lt, right)) = l else {
+        return l;
+    };
     let a = code_of(doc, lt);
-    let (rt, next) = type_expr(doc, right, depth, names, enums)?;
+    let r = type_expr(doc, right, depth, names, enums);
+    let Ok((rt, next)) = r else {
+        return r;
+    };
     let b = code_of(doc, rt);
     let q = quick_type(op, a, b);
     if q == 0 {

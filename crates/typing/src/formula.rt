@@ -33,7 +33,7 @@ pub(crate) fn kind_of(case: u64) -> Kind
         4 | 5 | 6 | 12 => Kind::Two,
         9 => Kind::Always,
         10 => Kind::Sometime,
-        _ => Kind::Unknown,
+        13..=u64::MAX => Kind::Unknown,
     }
 }
 

@@ -72,7 +72,7 @@ pub(crate) fn enum_at(doc: &[u8], at: usize) -> Option<usize>
     match case {
         0 => None,
         1 => None,
-        _ => Some(fields.at),
+        2..=u64::MAX => Some(fields.at),
     }
 }
 
@@ -107,6 +107,6 @@ pub fn pattern_expr_compatible(doc: &[u8], at: usize, ty: usize) -> Result<(), C
         2 => int_on(doc, k, ty_at(doc, ty)),
         3 => bool_on(doc, ty_at(doc, ty)),
         4 => path_on(doc, k, ty),
-        _ => Ok(()),
+        5..=u64::MAX => Ok(()),
     }
 }

@@ -111,9 +111,10 @@ pub(crate) fn ty_at(doc: &[u8], at: usize) -> Ty
     };
     let case = tag.case;
     match case {
+        0 => Ty::Bool,
         1 => width_at(doc, next.at),
         2 => Ty::Enum(next.at),
-        _ => Ty::Bool,
+        3..=u64::MAX => Ty::Bool,
     }
 }
 

@@ -8,23 +8,23 @@ use Rattle.typing.proofs.expr.+type_binary_type_expr_type_unary.Goals as goal
 pub type_binary-returns-in_default : goal.type_binary-returns-in_default
 type_binary-returns-in_default t c = search binary_none
 
-pub type_binary-returns-in_err-lt : goal.type_binary-returns-in_err-lt
-type_binary-returns-in_err-lt t c = let e : c.from_residual.result ≡ Err c.in_err-lt.field-0.0 = search rules in search (left_out, c.in_err-lt.was)
+pub type_binary-returns-in_default-l : goal.type_binary-returns-in_default-l
+type_binary-returns-in_default-l t c = search left_out
 
-pub type_binary-returns-in_err-rt : goal.type_binary-returns-in_err-rt
-type_binary-returns-in_err-rt t c = let e : c.from_residual-in_err-rt.result ≡ Err c.in_err-rt.field-0.0 = search rules in search (right_out, c.in_ok-lt.was, c.in_err-rt.was)
+pub type_binary-returns-in_default-r : goal.type_binary-returns-in_default-r
+type_binary-returns-in_default-r t c = search right_out
 
 pub type_binary-returns-then-q-eq0 : goal.type_binary-returns-then-q-eq0
-type_binary-returns-then-q-eq0 t c = search (binary_goes, quick_bool, c.in_ok-lt.was, c.in_ok-rt.was)
+type_binary-returns-then-q-eq0 t c = search (binary_goes, quick_bool)
 
 pub type_binary-overflow_cast-result : goal.type_binary-overflow_cast-result
 type_binary-overflow_cast-result t c = omega (arith, c.quick_type-q.ensures.few (search rules))
 
 pub type_binary-returns-then-q-gt2 : goal.type_binary-returns-then-q-gt2
-type_binary-returns-then-q-gt2 t c = search (binary_goes, quick_bits, c.in_ok-lt.was, c.in_ok-rt.was)
+type_binary-returns-then-q-gt2 t c = search (binary_goes, quick_bits)
 
 pub type_binary-returns : goal.type_binary-returns
-type_binary-returns t c = search (binary_goes, c.in_ok-lt.was, c.in_ok-rt.was)
+type_binary-returns t c = search binary_goes
 
 pub type_expr-returns-then-depth-eq0 : goal.type_expr-returns-then-depth-eq0
 type_expr-returns-then-depth-eq0 t c = search too_deep
@@ -47,17 +47,17 @@ type_expr-returns-in-3 t c = search arm_unary
 pub type_expr-returns-in-4 : goal.type_expr-returns-in-4
 type_expr-returns-in-4 t c = search arm_binary
 
-pub type_expr-returns-in_default-case : goal.type_expr-returns-in_default-case
-type_expr-returns-in_default-case t c = arm_beyond _ _ _ _ c.if-depth-eq0.false c.tag-t.ensures c.in-Ok.is _ (omega arith) (omega arith) (omega arith) (omega arith) (omega arith)
+pub type_expr-returns-in-5-to-18446744073709551615 : goal.type_expr-returns-in-5-to-18446744073709551615
+type_expr-returns-in-5-to-18446744073709551615 t c = arm_beyond _ _ _ _ c.if-depth-eq0.false c.tag-t.ensures c.in-Ok.is _ (omega arith) (omega arith) (omega arith) (omega arith) (omega arith)
 
 pub type_unary-returns-in_default : goal.type_unary-returns-in_default
 type_unary-returns-in_default t c = search unary_none
 
-pub type_unary-returns-in_err-ty : goal.type_unary-returns-in_err-ty
-type_unary-returns-in_err-ty t c = let e : c.from_residual.result ≡ Err c.in_err-ty.field-0.0 = search rules in search (unary_out, c.in_err-ty.was)
+pub type_unary-returns-in_default-t : goal.type_unary-returns-in_default-t
+type_unary-returns-in_default-t t c = search unary_out
 
 pub type_unary-returns-then-is_bool : goal.type_unary-returns-then-is_bool
-type_unary-returns-then-is_bool t c = search (unary_not, c.in_ok-ty.was)
+type_unary-returns-then-is_bool t c = search unary_not
 
 pub type_unary-returns : goal.type_unary-returns
-type_unary-returns t c = search (unary_goes, c.in_ok-ty.was)
+type_unary-returns t c = search unary_goes

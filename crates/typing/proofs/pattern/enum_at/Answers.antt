@@ -12,5 +12,5 @@ returns-in-0 c = search enum_bool
 pub returns-in-1 : goal.returns-in-1
 returns-in-1 c = search enum_bit
 
-pub returns-in_default-case : goal.returns-in_default-case
-returns-in_default-case c = enum_is _ _ c.tag-t.ensures c.in-Ok.is (omega arith) (omega arith)
+pub returns-in-2-to-18446744073709551615 : goal.returns-in-2-to-18446744073709551615
+returns-in-2-to-18446744073709551615 c = enum_is _ _ c.tag-t.ensures c.in-Ok.is (omega arith) (omega arith)

@@ -21,5 +21,5 @@ returns-in-3 c = search accepts_bool
 pub returns-in-4 : goal.returns-in-4
 returns-in-4 c = search accepts_path
 
-pub returns-in_default-case : goal.returns-in_default-case
-returns-in_default-case c = accepts_beyond _ _ _ c.tag-t.ensures c.in-Ok.is _ (omega arith)
+pub returns-in-5-to-18446744073709551615 : goal.returns-in-5-to-18446744073709551615
+returns-in-5-to-18446744073709551615 c = accepts_beyond _ _ _ c.tag-t.ensures c.in-Ok.is _ (omega arith)

@@ -14,4 +14,4 @@ returns-in_err-past-clause-value c = on_error (record_on _ _ _ _ _ c.fields.ensu
 
 pub returns-clause-value : goal.returns-clause-value
 unfolding read_enum_decl read_names
-returns-clause-value c = record_on _ _ _ _ _ c.fields.ensures c.in_ok-fields.was (then_on _ _ _ _ c.past.ensures c.in_ok-past.was (list_stands _ _ _ _ c.list.ensures))
+returns-clause-value c = record_on _ _ _ _ _ c.fields.ensures c.in_ok-fields.was (then_on _ _ _ _ c.past.ensures c.in_ok-past.was (list_stands _ _ _ _ c.list_here.ensures))

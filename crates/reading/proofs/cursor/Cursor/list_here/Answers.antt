@@ -2,7 +2,7 @@
 use Rattle.std.proofs.Common.{rules, sym}
 use Rattle.reading.specs.Link.{list_ends}
 use Rattle.reading.proofs.Threads.{on_error, entry_read, entry_out, entries_done, list_out, list_on}
-use Rattle.reading.proofs.cursor.Cursor.list.Goals as goal
+use Rattle.reading.proofs.cursor.Cursor.list_here.Goals as goal
 
 pub returns-in_err-count : goal.returns-in_err-count
 unfolding list_ends
