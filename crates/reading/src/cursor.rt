@@ -50,7 +50,7 @@ fn eight(doc: &[u8], at: usize) -> u64
 }
 
 // What reads a head stands in its callers, down from here: as the answer of a call a head would go through memory with the fill behind its major
-// type, which takes longer than all else that a head of several bytes costs.
+// type, and documents full of bools or of numbers from 24 on would take longer.
 
 // A head whose argument was read: refused where a shorter head would do.
 #[inline(always)]

@@ -57,7 +57,7 @@ impl Cursor {
         self.any_kind(whole, due)
     }
 
-    // The same, by the whole head. Rare enough to be a call, so that the head stands in one place.
+    // The same, by the whole head. A call, so that what reads a head does not stand in every caller of `kind` too.
     #[inline(never)]
     pub(crate) fn any_kind(self, doc: &[u8], due: u8) -> Answer<u64>
         ensures { result ≡ answer (read_kind due doc.now self.at) }
