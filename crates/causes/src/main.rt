@@ -12,10 +12,11 @@ mod timed;
 
 use record::read_record;
 use std::env::{Env, FillError};
+use std::fmt::Write;
 use std::fs::File;
 use std::io::{Result, Stdout};
 use steps::replay_steps;
-use tally::Tally;
+use tally::{Pieces, Tally};
 
 // Room for a document and its steps.
 const SPACE: usize = 200000;
@@ -40,9 +41,8 @@ fn main(rt: HostRuntime) -> Result<()> {
     let out = rt.stdout();
     let mut space = [0u8; SPACE];
     let mut word = [0u8; 1];
-    // What cannot be written is left out.
     if let Err(FillError::NotPresent) = rt.arg(1, &mut word) {
-        let _ = rt.println(replay(&mut file, out, &mut space));
+        let _ = write!(Pieces(out), "{}", replay(&mut file, out, &mut space));
     } else {
         timed::run(&rt, &mut file, out, &mut space);
     }

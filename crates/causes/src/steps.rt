@@ -1,7 +1,8 @@
 // The steps of one record.
 use crate::judge::{Kind, number_of};
-use crate::tally::Tally;
+use crate::tally::{Pieces, Tally};
 use std::fmt;
+use std::fmt::Write;
 use std::io::Stdout;
 
 // The words of a block of names.
@@ -26,10 +27,11 @@ impl From<[u8; 4]> for Step {
     }
 }
 
+// As it stands behind its document's number.
 impl fmt::Display for Step {
     fn fmt<W: fmt::Write>(&self, f: &mut fmt::Formatter<W>) -> fmt::Result {
         let Step { kind, due, at } = *self;
-        write!(f, "kind {kind} at {at}: due {due}")
+        write!(f, ", kind {kind} at {at}: due {due}")
     }
 }
 
@@ -121,7 +123,10 @@ pub(crate) fn replay_steps(out: Stdout, doc: &[u8], steps: &[u8], tally: &mut Ta
         let due = u32::from(step.due);
         if given != due {
             let documents = tally.documents;
-            let _ = println!(out; "document {documents}, {step}, answered {given}");
+            let _ = write!(
+                Pieces(out),
+                "document {documents}{step}, answered {given}\n"
+            );
         }
         tally.count(due, given);
     }

@@ -1,5 +1,17 @@
-// How many items were answered how.
+// How many items were answered how, and what is printed.
 use std::fmt;
+use std::io::Stdout;
+
+// Standard output, which gets each piece of a text by itself: one that cannot be written is left out.
+#[derive(Clone, Copy)]
+pub(crate) struct Pieces(pub(crate) Stdout);
+
+impl fmt::Write for Pieces {
+    fn write_str(&mut self, piece: &str) -> fmt::Result {
+        let _ = self.0.write_all(piece.as_bytes());
+        Ok(())
+    }
+}
 
 // How many documents there were; how many items were found without a fault, with one, and otherwise than is due.
 #[derive(Clone, Copy, Default)]
@@ -39,7 +51,7 @@ impl fmt::Display for Tally {
         } = *self;
         write!(
             f,
-            "{documents} documents: {sound} items without a fault, {faulty} with one, {wrong} answered otherwise"
+            "{documents} documents: {sound} items without a fault, {faulty} with one, {wrong} answered otherwise\n"
         )
     }
 }

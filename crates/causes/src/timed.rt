@@ -1,8 +1,9 @@
 // Reads or types one document many times, to be timed from outside.
 use crate::record::{Record, read_record};
 use crate::steps::replay_steps;
-use crate::tally::Tally;
+use crate::tally::{Pieces, Tally};
 use std::env::Env;
+use std::fmt::Write;
 use std::fs::File;
 use std::io::Stdout;
 
@@ -68,6 +69,5 @@ pub(crate) fn run(rt: &impl Env, file: &mut File, out: Stdout, space: &mut [u8])
     } else {
         turns(space, record, n, |doc, _| read_once(doc))
     };
-    // What cannot be written is left out.
-    let _ = println!(out; "{n} times, {wrong} answered otherwise");
+    let _ = write!(Pieces(out), "{n} times, {wrong} answered otherwise\n");
 }

@@ -42,7 +42,9 @@ impl Cursor {
             return Err(Fault::TooDeep.at(self.at));
         }
         let (tag, next) = self.tag(doc)?;
-        next.expr_case(doc, tag, left - 1)
+        // The place alone is handed on: the whole result would be copied in pieces that overlap, and the caller would wait for them.
+        let end = next.expr_case(doc, tag, left - 1)?;
+        Ok(end)
     }
 
     // The fields of an expression's case; its operands have as many levels left.

@@ -1,8 +1,20 @@
 // The files that are replayed: each is a row of records, and each record a document and what is due for it.
 use std::fmt;
+use std::fmt::Write;
 use std::fs::File;
 use std::io::{Read, Stdout};
 use std::ops::ControlFlow;
+
+// Standard output, which gets each piece of a text by itself: one that cannot be written is left out.
+#[derive(Clone, Copy)]
+pub(crate) struct Pieces(pub(crate) Stdout);
+
+impl fmt::Write for Pieces {
+    fn write_str(&mut self, piece: &str) -> fmt::Result {
+        let _ = self.0.write_all(piece.as_bytes());
+        Ok(())
+    }
+}
 
 // The records of one kind, and how many were answered how.
 pub(crate) trait Records {
@@ -53,6 +65,5 @@ pub(crate) fn replay<T: Records + fmt::Display + Drop>(
             break;
         }
     }
-    // What cannot be written is left out.
-    let _ = println!(out; "{records}");
+    let _ = write!(Pieces(out), "{records}");
 }

@@ -1,7 +1,8 @@
 // Replays data/findings.bin: each record has a document, and its findings or its refusal, as the original Rust gives them.
-use crate::file::{Records, next_byte, next_word, read_front};
+use crate::file::{Pieces, Records, next_byte, next_word, read_front};
 use crate::sheet::{Due, Sheet, judge};
 use std::fmt;
+use std::fmt::Write;
 use std::fs::File;
 use std::io::Stdout;
 use std::ops::ControlFlow;
@@ -27,7 +28,7 @@ impl fmt::Display for Sheets {
         } = *self;
         write!(
             f,
-            "{accepted} documents with {findings} findings, {refused} refused, {wrong} answered otherwise"
+            "{accepted} documents with {findings} findings, {refused} refused, {wrong} answered otherwise\n"
         )
     }
 }
@@ -77,7 +78,7 @@ impl Records for Sheets {
         if judge(doc, &mut self.sheet, findings, due) {
             self.count_right(due);
         } else {
-            let _ = println!(out; "otherwise than is due: {due}");
+            let _ = write!(Pieces(out), "otherwise than is due: {due}\n");
             self.count_wrong();
         }
         ControlFlow::Continue(())

@@ -18,7 +18,7 @@ impl fmt::Display for Messages {
         let Messages { right, wrong } = *self;
         write!(
             f,
-            "{right} documents with all that is printed, {wrong} answered otherwise"
+            "{right} documents with all that is printed, {wrong} answered otherwise\n"
         )
     }
 }

@@ -1,6 +1,7 @@
 // Replays data/vectors.bin: each record has a document, and its refusal's number and place, 0 and 0 where it is accepted.
-use crate::file::{Records, next_byte, next_word};
+use crate::file::{Pieces, Records, next_byte, next_word};
 use std::fmt;
+use std::fmt::Write;
 use std::fs::File;
 use std::io::Stdout;
 use std::ops::ControlFlow;
@@ -22,7 +23,7 @@ impl fmt::Display for Vectors {
         } = *self;
         write!(
             f,
-            "{accepted} accepted, {refused} refused, {wrong} answered otherwise"
+            "{accepted} accepted, {refused} refused, {wrong} answered otherwise\n"
         )
     }
 }
@@ -60,7 +61,7 @@ impl Records for Vectors {
         let due = next_reply(file);
         let given = reply_to(doc);
         let count = if given != due {
-            let _ = println!(out; "due {due}, answered {given}");
+            let _ = write!(Pieces(out), "due {due}, answered {given}\n");
             &mut self.wrong
         } else if given.number == 0 {
             &mut self.accepted

@@ -4,18 +4,17 @@
 
 use reading::{Cursor, Fault, Head, Refusal};
 use std::fmt;
+use std::fmt::Write;
 use std::fs::File;
 use std::io::{Read, Result, Stdout};
 
-// Bytes, two digits each.
+// Standard output, which gets each piece of a text by itself: one that cannot be written is left out.
 #[derive(Clone, Copy)]
-struct Hex<'a>(&'a [u8]);
+struct Pieces(Stdout);
 
-impl fmt::Display for Hex<'_> {
-    fn fmt<W: fmt::Write>(&self, f: &mut fmt::Formatter<W>) -> fmt::Result {
-        for b in self.0 {
-            write!(f, "{b:02x}")?;
-        }
+impl fmt::Write for Pieces {
+    fn write_str(&mut self, piece: &str) -> fmt::Result {
+        let _ = self.0.write_all(piece.as_bytes());
         Ok(())
     }
 }
@@ -55,24 +54,29 @@ fn refusal_of_all(bytes: &[u8]) -> Option<Refusal> {
     start.kind(bytes, 0).err()
 }
 
-// The line of an example: what its head is, or why it is refused. What cannot be written is left out.
+// The line of an example: its bytes, and what its head is or why it is refused. A byte is one piece, both digits together.
 fn show(out: Stdout, bytes: &[u8]) {
-    let _ = print!(out; "{}: ", Hex(bytes));
+    for b in bytes {
+        let _ = print!(out; "{b:02x}");
+    }
+    let mut out = Pieces(out);
+    let _ = write!(out, ": ");
     match reading::head_from(bytes, 0) {
         Err(refusal) => {
-            let _ = print!(out; "{}", Refused(refusal));
+            let _ = write!(out, "{}", Refused(refusal));
         }
         Ok((Head { major, argument }, next)) => {
-            let _ = print!(out;
+            let _ = write!(
+                out,
                 "major type {major}, argument {argument}, {} bytes",
                 next.at
             );
             if let Some(refusal) = refusal_of_all(bytes) {
-                let _ = print!(out; "; no kind of a document: {}", Refused(refusal));
+                let _ = write!(out, "; no kind of a document: {}", Refused(refusal));
             }
         }
     }
-    let _ = println!(out);
+    let _ = write!(out, "\n");
 }
 
 // Reads the next example to the front of the space; none at the end of the file.

@@ -1,6 +1,6 @@
 -- By the levels left; each arm is the row of its number.
 use Rattle.std.proofs.Common.{rules}
-use mathlib.Core.Path.{refl}
+use mathlib.Core.Path.{refl, sym, ◌∙◌}
 use native.Mathlib.Omega.{arith}
 use Rattle.reading.specs.Read.{pick}
 use Rattle.reading.specs.Limits.{max_u64}
@@ -18,8 +18,11 @@ expr-returns-then-left-eq0 t c = expr_none _ _ _ c.if-left-eq0.true c.at.ensures
 pub expr-returns-in_err-tag : goal.expr-returns-in_err-tag
 expr-returns-in_err-tag t c = on_error (expr_level _ _ _ c.if-left-eq0.false (enum_out _ _ _ c.tag.ensures c.in_err-tag.was)) (search rules)
 
+pub expr-returns-in_err-end : goal.expr-returns-in_err-end
+expr-returns-in_err-end t c = on_error (expr_level _ _ _ c.if-left-eq0.false (enum_on _ _ _ c.tag.ensures c.in_ok-tag.was (sym c.in_err-end.was ∙ c.expr_case.ensures))) (search rules)
+
 pub expr-returns : goal.expr-returns
-expr-returns t c = expr_level _ _ _ c.if-left-eq0.false (enum_on _ _ _ c.tag.ensures c.in_ok-tag.was c.expr_case.ensures)
+expr-returns t c = expr_level _ _ _ c.if-left-eq0.false (enum_on _ _ _ c.tag.ensures c.in_ok-tag.was (sym c.in_ok-end.was ∙ c.expr_case.ensures))
 
 pub expr_case-returns-in-0 : goal.expr_case-returns-in-0
 unfolding expr_cases row pick
