@@ -27,7 +27,7 @@ impl From<[u8; 4]> for Step {
     }
 }
 
-// As it stands behind its document's number.
+// As it stands behind its document's number: the comma is one piece with the word behind it.
 impl fmt::Display for Step {
     fn fmt<W: fmt::Write>(&self, f: &mut fmt::Formatter<W>) -> fmt::Result {
         let Step { kind, due, at } = *self;

@@ -1,8 +1,9 @@
-// How many items were answered how, and what is printed.
+// How many items were answered how, and how texts are printed.
 use std::fmt;
 use std::io::Stdout;
 
 // Standard output, which gets each piece of a text by itself: one that cannot be written is left out.
+// Texts have their line's end in them: by `writeln!` it would be a piece of its own.
 #[derive(Clone, Copy)]
 pub(crate) struct Pieces(pub(crate) Stdout);
 

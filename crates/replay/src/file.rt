@@ -6,6 +6,7 @@ use std::io::{Read, Stdout};
 use std::ops::ControlFlow;
 
 // Standard output, which gets each piece of a text by itself: one that cannot be written is left out.
+// Texts have their line's end in them: by `writeln!` it would be a piece of its own.
 #[derive(Clone, Copy)]
 pub(crate) struct Pieces(pub(crate) Stdout);
 
